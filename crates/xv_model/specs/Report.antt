@@ -1,0 +1,68 @@
+-- What is told of a migration: one unit's numbers, and the totals of the report.
+use Rattle.std.specs.Prelude.{ℕ, zero, suc, ◌+◌, ◌-◌, ◌==◌, ◌&&◌, ◌||◌, not, nat_lt, Bool, true, false, List, [], ◌∷◌, length, drop, replicate, unwrap_or, sum, sum_by, count_by, Option, if◌then◌else◌}
+use Rattle.xv_model.specs.Job.{Job, size}
+use Rattle.xv_model.specs.Guest.{Ended, is_done, content}
+use Rattle.xv_model.specs.View.{View, UnitHead, number, side, is_switched}
+use Rattle.xv_base.specs.declared.event.Probe.{Probe}
+use Rattle.xv_base.specs.declared.event.Totals.{Totals}
+
+-- how many messages of a list, of a stream's groups and of all streams pass a test
+abbrev pub count : (UnitHead → Bool) → List UnitHead → ℕ
+count test [] = 0
+count test (m ∷ ms) = (if test m then 1 else 0) + count test ms
+
+abbrev pub count_groups : (UnitHead → Bool) → List (List UnitHead) → ℕ
+count_groups test [] = 0
+count_groups test (group ∷ groups) = count test group + count_groups test groups
+
+abbrev pub count_streams : (UnitHead → Bool) → List (List (List UnitHead)) → ℕ
+count_streams test [] = 0
+count_streams test (groups ∷ streams) = count_groups test groups + count_streams test streams
+
+abbrev pub of_unit : ℕ → UnitHead → Bool
+of_unit unit m = m.unit.0 == unit
+
+-- one unit's numbers
+abbrev pub probe : Job → View → ℕ → Probe
+probe job v unit = record {
+  unit = record { 0 = unit };
+  side = side job v unit;
+  issued = number v.outbox.issued unit;
+  applied = number v.hold.applied unit;
+  outbox = count (of_unit unit) v.outbox.messages;
+  wires = count_streams (of_unit unit) v.streams;
+  held = count (of_unit unit) v.hold.held;
+}
+
+-- the numbers of the report, where the journal has n entries
+abbrev pub totals : Job → View → ℕ → Totals
+totals job v n = record {
+  phase = v.phase;
+  history = length v.history;
+  faulted = count_by (λ e. not (is_done e.outcome)) v.history;
+  journal = n;
+  stun = v.stun;
+  copied = sum_by (λ d. d.cursor) v.disks;
+  rounds = v.rounds;
+  messages = sum v.outbox.issued;
+  mirrors = sum (drop job.shape.pages v.outbox.issued) - count_by (λ k. nat_lt 0 k) (drop job.shape.pages v.outbox.issued);
+  applied = sum v.hold.applied;
+  credit = v.credit;
+}
+
+-- What each side holds of a unit: the source the whole history, or that at the stun once the guest has left; the
+-- destination what was last written there, or the whole history once it has the guest.
+abbrev pub source_length : View → ℕ
+source_length v = if is_switched v.phase then unwrap_or v.stun 0 else length v.history
+
+abbrev pub source_content : Job → View → ℕ → List ℕ
+source_content job v unit = content job v.history unit (source_length v)
+
+abbrev pub dest_length : View → ℕ → ℕ
+dest_length v unit = if is_switched v.phase then length v.history else number v.hold.recorded unit
+
+abbrev pub is_written : View → ℕ → Bool
+is_written v unit = is_switched v.phase || nat_lt 0 (number v.hold.applied unit)
+
+abbrev pub dest_content : Job → View → ℕ → List ℕ
+dest_content job v unit = if is_written v unit then content job v.history unit (dest_length v unit) else replicate (size job.shape unit) 0

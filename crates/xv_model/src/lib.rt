@@ -1,0 +1,5 @@
+// The migration as a machine of numbers: what each event waits for, what it does, and what is promised of every
+// run. There is no engine code here; contracts at every level cite these definitions.
+#![tactic(auto)]
+
+pub mod worked;
