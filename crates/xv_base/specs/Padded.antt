@@ -1,13 +1,12 @@
--- How a pattern's bytes lie in a field of fixed length: zeros follow them.
+-- How a list lies in an array of fixed length: blanks follow it.
 use Rattle.std.specs.Prelude.{◌≡◌, ℕ, ◌-◌, ◌<◌, ◌≤◌, List, ◌++◌, length, replicate, take}
 
--- the bytes, and zeros up to a length
-abbrev pub padded_to : ℕ → List ℕ → List ℕ
-padded_to size bytes = bytes ++ replicate (size - length bytes) 0
+-- the items, and blanks up to a length
+abbrev pub padded_to : {A : Type 0} → A → ℕ → List A → List A
+padded_to blank size items = items ++ replicate (size - length items) blank
 
--- the first `count` of these are the bytes, zeros follow them, and there are at most `size`
-pub record IsPadded (size : ℕ) (count : ℕ) (padded : List ℕ) : Type 0 where
-  pub not_empty : 0 < count
+-- the first `count` of these are the items, blanks follow them, and there are at most `size`
+pub record IsPadded {A : Type 0} (blank : A) (size : ℕ) (count : ℕ) (padded : List A) : Type 0 where
   pub fits : count ≤ size
   pub counted : length (take count padded) ≡ count
-  pub zeros_follow : padded_to size (take count padded) ≡ padded
+  pub blanks_follow : padded_to blank size (take count padded) ≡ padded

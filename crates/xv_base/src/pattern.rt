@@ -15,18 +15,18 @@ pub struct Pattern {
 }
 
 impl Model for Pattern {
-    ghost use Rattle.std.specs.Prelude.{ℕ, List, take, length};
+    ghost use Rattle.std.specs.Prelude.{ℕ, List, ◌<◌, take, length};
     ghost use Rattle.xv_base.specs.Padded.{IsPadded, padded_to};
 
     ghost Value = { List ℕ };
 
     ghost view = { λ p. take p.count p.padded };
 
-    ghost invariant = { λ p. IsPadded 64 p.count p.padded };
+    ghost invariant = { λ p. IsPadded 0 64 p.count p.padded × (0 < p.count) };
 
-    ghost inverse = { λ bytes. record { padded = padded_to 64 bytes; count = length bytes } };
+    ghost inverse = { λ bytes. record { padded = padded_to 0 64 bytes; count = length bytes } };
 
-    ghost inverse_ok = { λ p h i. record { padded = h.zeros_follow i; count = h.counted i } };
+    ghost inverse_ok = { λ p h i. record { padded = h.0.blanks_follow i; count = h.0.counted i } };
 }
 
 impl Pattern {
@@ -74,7 +74,7 @@ impl Pattern {
 fn begin_with(padded: &mut [u8], bytes: &[u8])
     requires zeros { padded.old ≡ replicate (length padded.old) 0 }
     requires fits { length bytes.now ≤ length padded.old }
-    ensures { padded.new ≡ padded_to (length padded.old) bytes.now }
+    ensures { padded.new ≡ padded_to 0 (length padded.old) bytes.now }
 {
     padded[..bytes.len()].copy_from_slice(bytes);
 }
