@@ -7,6 +7,7 @@
 #![tactic(auto)]
 
 mod answer;
+mod disks;
 mod event;
 mod layout;
 mod limits;
