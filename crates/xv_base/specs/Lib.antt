@@ -1,2 +1,4 @@
 pub mod Units
+pub mod Layout
 pub mod Pattern
+pub mod Padded

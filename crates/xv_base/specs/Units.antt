@@ -1,5 +1,5 @@
 -- The units of a machine: its memory pages, then the blocks of disk 0, of disk 1 and so on.
-use Rattle.std.specs.Prelude.{ℕ, zero, suc, ◌+◌, ◌-◌, ◌*◌, nat_lt, Bool, List, [], ◌∷◌, take, if◌then◌else◌}
+use Rattle.std.specs.Prelude.{ℕ, zero, suc, ◌+◌, ◌-◌, ◌*◌, max, nat_lt, nat_eq, Bool, List, [], ◌∷◌, take, if◌then◌else◌}
 use Rattle.xv_base.specs.declared.unit.DiskShape.{DiskShape}
 
 -- how many pages of which size, and the disks
@@ -7,6 +7,10 @@ pub record Shape : Type 0 where
   pub pages : ℕ
   pub page_size : ℕ
   pub disks : List DiskShape
+
+-- the shape of these numbers
+abbrev pub shape_of : ℕ → ℕ → List DiskShape → Shape
+shape_of p z ds = record { pages = p; page_size = z; disks = ds }
 
 -- how many blocks these disks have
 abbrev pub blocks_of : List DiskShape → ℕ
@@ -71,3 +75,18 @@ blocks (d ∷ ds) (suc disk) = blocks ds disk
 -- where a unit's bytes begin, with all units' bytes one after another in rising order
 abbrev pub place : Shape → ℕ → ℕ
 place s u = if is_page s u then u * s.page_size else s.pages * s.page_size + bytes_before s.disks (u - s.pages)
+
+-- how many bytes each block of a disk has
+abbrev pub block_size : List DiskShape → ℕ → ℕ
+block_size [] disk = 0
+block_size (d ∷ ds) zero = d.block_size
+block_size (d ∷ ds) (suc disk) = block_size ds disk
+
+-- the greatest size of a block of these disks, or 0 where they have none
+abbrev pub max_block_size : List DiskShape → ℕ
+max_block_size [] = 0
+max_block_size (d ∷ ds) = if nat_eq d.blocks 0 then max_block_size ds else max d.block_size (max_block_size ds)
+
+-- the greatest size of a unit
+abbrev pub max_size : Shape → ℕ
+max_size s = max s.page_size (max_block_size s.disks)

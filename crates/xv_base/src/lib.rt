@@ -7,7 +7,9 @@
 #![tactic(auto)]
 
 mod answer;
+mod disks;
 mod event;
+mod layout;
 mod limits;
 mod operation;
 mod pattern;
@@ -15,6 +17,7 @@ mod unit;
 
 pub use answer::{Cause, Entry, Note, Turn, Why};
 pub use event::{Event, Phase, Probe, Side, Totals};
+pub use layout::{Layout, LayoutFault};
 pub use limits::{Config, Fault};
 pub use operation::{Ended, Outcome, UnitHead, Waiting};
 pub use pattern::{Init, Pattern, UnitOp};
