@@ -1,8 +1,7 @@
 -- What each event does to the view, and what it answers.
-use Rattle.std.specs.Prelude.{ℕ, zero, suc, ◌+◌, ◌-◌, ◌==◌, ◌&&◌, not, min, Bool, true, false, List, [], ◌∷◌, ◌++◌, length, map, take, drop, set, replicate, remove, get_or, Option, Some, None, is_some, if◌then◌else◌}
+use Rattle.std.specs.Prelude.{ℕ, zero, suc, ◌+◌, ◌-◌, ◌==◌, ◌&&◌, not, min, Bool, true, false, List, [], ◌∷◌, ◌++◌, length, map, take, drop, set, replicate, remove, get_or, Some, is_some, if◌then◌else◌}
 use Rattle.xv_model.specs.Job.{Job, UnitOp, unit_of_block, disk_of, blocks}
-use Rattle.xv_model.specs.Guest.{Ended}
-use Rattle.xv_model.specs.View.{View, Disk, Outbox, Hold, UnitHead, Waiting, Phase, disk, front, number, member, members, least, is_running, is_live, stream, front_group, no_message, ready, ready_message}
+use Rattle.xv_model.specs.View.{View, Disk, Outbox, UnitHead, Phase, disk, front, number, member, members, least, is_running, is_live, stream, front_group, no_message, ready, ready_message}
 use Rattle.xv_model.specs.Wait.{Event, Aim, next_operation, next_aim, is_store, is_join, is_mirror}
 use Rattle.xv_base.specs.declared.event.Phase.TheVariants.{Stunned, Switched, Cancelled, Failed}
 use Rattle.xv_base.specs.declared.event.Event.TheVariants.{Guest, Begin, Read, Advance, Release, Round, Page, Send, Deliver, Apply, Ack, Credit, Stun, Switch, Cancel}
@@ -11,7 +10,6 @@ use Rattle.xv_base.specs.declared.operation.Outcome.TheVariants.{Done, Faulted}
 pub use Rattle.xv_base.specs.declared.answer.Turn.{Turn}
 use Rattle.xv_base.specs.declared.answer.Turn.TheVariants.{Done as Happened, Queued, Faulted as GuestFault, Failed as Broke}
 pub use Rattle.xv_base.specs.declared.answer.Note.{Note}
-use Rattle.xv_base.specs.declared.answer.Cause.{Cause}
 use Rattle.xv_base.specs.declared.answer.Cause.TheVariants.{SourceRead, DestWrite, Flush, Put, Take, AckPut, AckTake}
 
 -- Making a message: the unit's next version, with the length of the history in it.

@@ -1,6 +1,6 @@
 -- The unmigrated guest: its history, and what each unit holds and each read gives after a beginning of it.
-use Rattle.std.specs.Prelude.{ℕ, zero, suc, ◌+◌, ◌==◌, ◌&&◌, Bool, true, false, not, is_some, is_none, if◌then◌else◌, List, [], ◌∷◌, ◌++◌, length, take, drop, replicate, get_or, Some, None, Option, count_by}
-use Rattle.xv_model.specs.Job.{Job, UnitOp, Init, GuestId, size, repeated, operation}
+use Rattle.std.specs.Prelude.{ℕ, zero, suc, ◌+◌, ◌==◌, ◌&&◌, Bool, true, false, is_some, is_none, if◌then◌else◌, List, [], ◌∷◌, ◌++◌, take, drop, replicate, get_or, Some, None, Option, count_by}
+use Rattle.xv_model.specs.Job.{Job, UnitOp, Init, size, repeated, operation}
 pub use Rattle.xv_base.specs.declared.operation.Ended.{Ended}
 use Rattle.xv_base.specs.declared.operation.Outcome.{Outcome}
 use Rattle.xv_base.specs.declared.operation.Outcome.TheVariants.{Done, Faulted}

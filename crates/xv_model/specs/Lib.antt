@@ -4,5 +4,10 @@ pub mod View
 pub mod Wait
 pub mod Effect
 pub mod Step
+pub mod Outstanding
 pub mod Report
+pub mod Invariant
+pub mod Contents
+pub mod Work
+pub mod Driver
 pub mod Worked

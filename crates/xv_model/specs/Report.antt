@@ -1,26 +1,11 @@
 -- What is told of a migration: one unit's numbers, and the totals of the report.
-use Rattle.std.specs.Prelude.{ℕ, zero, suc, ◌+◌, ◌-◌, ◌==◌, ◌&&◌, ◌||◌, not, nat_lt, Bool, true, false, List, [], ◌∷◌, length, drop, replicate, unwrap_or, sum, sum_by, count_by, Option, if◌then◌else◌}
+use Rattle.std.specs.Prelude.{ℕ, ◌-◌, ◌||◌, not, nat_lt, Bool, List, length, drop, replicate, unwrap_or, sum, sum_by, count_by, if◌then◌else◌}
 use Rattle.xv_model.specs.Job.{Job, size}
-use Rattle.xv_model.specs.Guest.{Ended, is_done, content}
-use Rattle.xv_model.specs.View.{View, UnitHead, number, side, is_switched}
+use Rattle.xv_model.specs.Guest.{is_done, content}
+use Rattle.xv_model.specs.View.{View, number, side, is_switched}
+use Rattle.xv_model.specs.Outstanding.{count, count_streams, of_unit}
 use Rattle.xv_base.specs.declared.event.Probe.{Probe}
 use Rattle.xv_base.specs.declared.event.Totals.{Totals}
-
--- how many messages of a list, of a stream's groups and of all streams pass a test
-abbrev pub count : (UnitHead → Bool) → List UnitHead → ℕ
-count test [] = 0
-count test (m ∷ ms) = (if test m then 1 else 0) + count test ms
-
-abbrev pub count_groups : (UnitHead → Bool) → List (List UnitHead) → ℕ
-count_groups test [] = 0
-count_groups test (group ∷ groups) = count test group + count_groups test groups
-
-abbrev pub count_streams : (UnitHead → Bool) → List (List (List UnitHead)) → ℕ
-count_streams test [] = 0
-count_streams test (groups ∷ streams) = count_groups test groups + count_streams test streams
-
-abbrev pub of_unit : ℕ → UnitHead → Bool
-of_unit unit m = m.unit.0 == unit
 
 -- one unit's numbers
 abbrev pub probe : Job → View → ℕ → Probe

@@ -1,13 +1,12 @@
 -- One step of the machine, the calls on the outside, and whole runs.
-use Rattle.std.specs.Prelude.{ℕ, ◌+◌, ◌==◌, ◌&&◌, ◌||◌, not, Bool, true, false, List, [], ◌∷◌, ◌++◌, length, Option, Some, None, is_some, count_by, if◌then◌else◌}
+use Rattle.std.specs.Prelude.{ℕ, ◌+◌, ◌==◌, ◌&&◌, not, Bool, true, false, List, [], ◌∷◌, ◌++◌, Option, Some, None, is_some, count_by, if◌then◌else◌}
 use Rattle.std.specs.List.{list_any}
-use Rattle.xv_model.specs.Job.{Job, UnitOp, Fault}
-use Rattle.xv_model.specs.View.{View, Phase, first_view, is_switched, disk, front}
+use Rattle.xv_model.specs.Job.{Job, Fault}
+use Rattle.xv_model.specs.View.{View, first_view, is_switched}
 use Rattle.xv_model.specs.Wait.{Event, Why, wait, next_operation, next_aim, is_join}
 use Rattle.xv_model.specs.Effect.{Turn, Note, effect, fault_effect, answer, fault_answer}
 use Rattle.xv_base.specs.declared.event.Event.TheVariants.{Guest, Begin, Read, Advance, Release, Round, Page, Send, Deliver, Apply, Ack, Credit, Stun, Switch, Cancel}
 use Rattle.xv_base.specs.declared.answer.Turn.TheVariants.{Done, Queued, Faulted, Wait, Failed, NoMemory}
-use Rattle.xv_base.specs.declared.answer.Why.TheVariants.{TraceEnd, InQueue, CancelDue, Stunned, Throttled, NoCredit, NothingThere, NotNow}
 use Rattle.xv_base.specs.declared.answer.Cause.{Cause}
 use Rattle.xv_base.specs.declared.answer.Cause.TheVariants.{SourceRead as ReadBroke, DestWrite as WriteBroke, Flush as FlushBroke, Put as PutBroke, Take as TakeBroke, AckPut as AckPutBroke, AckTake as AckTakeBroke}
 use Rattle.xv_base.specs.declared.limits.Fault.TheVariants.{SourceRead as FailRead, SourceWrite as FailWrite, DestRead as FailDestRead, DestWrite as FailDestWrite, Flush as FailFlush, Put as FailPut, Take as FailTake, AckPut as FailAckPut, AckTake as FailAckTake}

@@ -1,6 +1,6 @@
 -- The view: all numbers of a migration and no content.
-use Rattle.std.specs.Prelude.{ℕ, zero, suc, ◌+◌, ◌==◌, ◌&&◌, ◌||◌, nat_lt, nat_le, not, Bool, true, false, List, [], ◌∷◌, ◌++◌, length, map, replicate, get_or, Option, Some, None, if◌then◌else◌}
-use Rattle.xv_model.specs.Job.{Job, Shape, UnitOp, unit_count, is_page, disk_of, block_of}
+use Rattle.std.specs.Prelude.{ℕ, suc, ◌+◌, ◌==◌, ◌&&◌, ◌||◌, nat_lt, nat_le, not, Bool, true, false, List, [], ◌∷◌, length, map, replicate, get_or, Option, None, if◌then◌else◌}
+use Rattle.xv_model.specs.Job.{Job, unit_count, is_page, disk_of, block_of}
 use Rattle.xv_model.specs.Guest.{Ended}
 pub use Rattle.xv_base.specs.declared.operation.UnitHead.{UnitHead}
 pub use Rattle.xv_base.specs.declared.operation.Waiting.{Waiting}

@@ -1,8 +1,8 @@
 -- When each event waits, and for what.
-use Rattle.std.specs.Prelude.{ℕ, ◌+◌, ◌-◌, ◌==◌, ◌&&◌, ◌||◌, nat_lt, nat_le, not, Bool, true, false, length, Option, Some, None, is_some, if◌then◌else◌}
-use Rattle.xv_model.specs.Job.{Job, UnitOp, is_page, disk_of, block_of, blocks, trace, operation}
+use Rattle.std.specs.Prelude.{ℕ, ◌-◌, ◌==◌, ◌&&◌, ◌||◌, nat_lt, nat_le, not, Bool, true, false, length, Option, Some, None, is_some, if◌then◌else◌}
+use Rattle.xv_model.specs.Job.{Job, UnitOp, is_page, disk_of, block_of, blocks, trace, operation, guest_count}
 use Rattle.xv_model.specs.Guest.{ended}
-use Rattle.xv_model.specs.View.{View, Disk, Waiting, disk, front, is_running, is_stunned, is_live, is_behind, is_inside, is_copied, all_copied, queues_empty, in_queue, is_empty, is_empty_set, members, stream, is_ready}
+use Rattle.xv_model.specs.View.{View, disk, front, is_running, is_stunned, is_live, is_behind, is_inside, is_copied, all_copied, queues_empty, in_queue, is_empty, is_empty_set, members, stream, is_ready}
 pub use Rattle.xv_base.specs.declared.event.Event.{Event}
 use Rattle.xv_base.specs.declared.event.Event.TheVariants.{Guest, Begin, Read, Advance, Release, Round, Page, Send, Deliver, Apply, Ack, Credit, Stun, Switch, Cancel}
 pub use Rattle.xv_base.specs.declared.answer.Why.{Why}
@@ -94,6 +94,24 @@ may_stun job v =
 -- whether nothing is outstanding, as far as the source knows
 abbrev pub may_switch : Job → View → Bool
 may_switch job v = is_empty_set v.to_send && is_empty v.outbox.messages && nat_le job.config.credit v.credit
+
+-- whether an event's guest, disk or stream is in the job
+abbrev pub fits : Job → Event → Bool
+fits job (Guest g) = nat_lt g.0 (guest_count job)
+fits job (Begin d) = nat_lt d (length job.shape.disks)
+fits job (Read d) = nat_lt d (length job.shape.disks)
+fits job (Advance d) = nat_lt d (length job.shape.disks)
+fits job (Release d) = nat_lt d (length job.shape.disks)
+fits job Round = true
+fits job Page = true
+fits job (Send s) = nat_lt s job.config.streams
+fits job (Deliver s) = nat_lt s job.config.streams
+fits job Apply = true
+fits job Ack = true
+fits job Credit = true
+fits job Stun = true
+fits job Switch = true
+fits job Cancel = true
 
 -- What an event waits for; none where it goes on. The flag says that its call on the outside fails: a take that fails
 -- does so whether or not there is something to take.
