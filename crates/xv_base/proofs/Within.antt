@@ -1,11 +1,11 @@
 -- A layout's numbers are within the limits.
-use Rattle.std.proofs.Common.{◌≡◌, ℕ, suc, zero, ◌+◌, ◌^◌, ◌<◌, ◌≤◌, Bool, true, false, not, List, [], ◌∷◌, length, Option, Some, None, IsTrue, nat_eq, nat_lt, refl, arith, rules, ◌*◌, ◌&&◌, nat_le}
+use Rattle.std.proofs.Common.{◌≡◌, ℕ, suc, zero, ◌+◌, ◌<◌, ◌≤◌, Bool, true, false, not, List, [], ◌∷◌, length, Option, Some, None, IsTrue, nat_eq, nat_lt, refl, arith, rules, ◌*◌}
 use Rattle.std.proofs.Math.Nat.{mul-le-mul_left}
 use Rattle.std.proofs.lemmas.Bool.Decides.{nat_tests}
 use Rattle.xv_base.specs.declared.unit.DiskShape.{DiskShape}
 use Rattle.xv_base.specs.declared.layout.LayoutFault.{LayoutFault}
-use Rattle.xv_base.specs.Units.{Shape, units, all_bytes, block_size, blocks_of, bytes_of}
-use Rattle.xv_base.specs.Layout.{is_unit_size, fault_if, first_of, disk_fault, layout_fault, IsGood, IsWithinLimits}
+use Rattle.xv_base.specs.Units.{Shape, block_size, blocks_of, bytes_of}
+use Rattle.xv_base.specs.Layout.{is_unit_size, fault_if, first_of, disk_fault, IsGood, IsWithinLimits}
 
 -- where neither of two is a fault
 first_of_none : (a b : Option LayoutFault) → first_of a b ≡ None → (a ≡ None) × (b ≡ None)

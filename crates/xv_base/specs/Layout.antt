@@ -1,5 +1,5 @@
 -- Which numbers make a layout, and what is wrong with the others.
-use Rattle.std.specs.Prelude.{◌≡◌, ℕ, suc, ◌+◌, ◌^◌, ◌<◌, ◌≤◌, IsTrue, nat_eq, nat_lt, nat_le, Bool, ◌&&◌, not, List, [], ◌∷◌, length, Option, Some, None, if◌then◌else◌}
+use Rattle.std.specs.Prelude.{◌≡◌, ℕ, ◌+◌, ◌^◌, ◌<◌, ◌≤◌, IsTrue, nat_eq, nat_lt, nat_le, Bool, ◌&&◌, not, List, [], ◌∷◌, length, Option, Some, None, if◌then◌else◌}
 use Rattle.std.specs.Int.{is_power_of_two}
 use Rattle.xv_base.specs.declared.unit.DiskShape.{DiskShape}
 use Rattle.xv_base.specs.declared.layout.LayoutFault.{LayoutFault}

@@ -6,7 +6,9 @@ ghost use Rattle.xv_base.specs.Padded.{padded_to};
 ghost use Rattle.xv_base.specs.Units.{shape_of, blocks_of, bytes_of, disk_at, block_at, block_size_at, bytes_before, units, all_bytes, is_page, size, disk_of, block_of, unit_of_block, blocks, block_size, max_block_size, max_size, place};
 ghost use Rattle.xv_base.specs.Layout.{is_unit_size, disk_fault, layout_fault, IsGood};
 
-use crate::disks::{Spot, count_blocks, count_bytes, disk_fault, is_unit_size, locate, max_block_size};
+use crate::disks::{
+    Spot, count_blocks, count_bytes, disk_fault, is_unit_size, locate, max_block_size,
+};
 use crate::unit::{DiskShape, UnitId};
 use std::marker::Model;
 
@@ -61,7 +63,10 @@ impl Layout {
         if let Some(fault) = fault_of(pages, page_size, disks) {
             return Err(fault);
         }
-        let mut padded = [DiskShape { blocks: 0, block_size: 0 }; 4];
+        let mut padded = [DiskShape {
+            blocks: 0,
+            block_size: 0,
+        }; 4];
         begin_with(&mut padded, disks);
         Ok(Layout {
             pages,

@@ -1,4 +1,3 @@
-use Rattle.std.proofs.Common.{ap, ◌∙◌, ◌++◌, drop, length}
 use Rattle.xv_base.proofs.Sums.{padded-over}
 use Rattle.xv_base.proofs.layout.begin_with.Goals as goal
 

@@ -1,6 +1,5 @@
-use Rattle.std.proofs.Common.{◌≡◌, ◌≤◌, ◌*◌, ◌<◌, ◌^◌, arith, None}
+use Rattle.std.proofs.Common.{◌≡◌, ◌≤◌, ◌^◌, arith, None}
 use Rattle.std.proofs.Math.Nat.{mul-le-mul_right}
-use Rattle.xv_base.specs.Units.{bytes_of}
 use Rattle.xv_base.specs.Layout.{disk_fault}
 use Rattle.xv_base.proofs.Within.{bytes_of-blocks_of}
 use Rattle.xv_base.proofs.layout.fault_of.Goals as goal

@@ -1,5 +1,5 @@
-use Rattle.std.proofs.Common.{◌≡◌, ◌+◌, ◌<◌, ◌≤◌, ◌^◌, arith, ap, take}
-use Rattle.xv_base.specs.Units.{Shape, blocks_of, blocks, units}
+use Rattle.std.proofs.Common.{◌≡◌, ◌≤◌, ◌^◌, arith, ap, take}
+use Rattle.xv_base.specs.Units.{Shape, blocks_of, units}
 use Rattle.xv_base.proofs.Sums.{blocks_of-take}
 use Rattle.xv_base.proofs.Within.{good_within}
 use Rattle.xv_base.proofs.layout.Layout.unit_of_block.Goals as goal
