@@ -2,3 +2,4 @@ pub mod Within
 pub mod Sums
 pub mod Blocks
 pub mod Partition
+pub mod Pads

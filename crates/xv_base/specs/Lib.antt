@@ -3,3 +3,4 @@ pub mod Layout
 pub mod Laws
 pub mod Pattern
 pub mod Padded
+pub mod Status

@@ -14,6 +14,8 @@ mod layout;
 mod limits;
 mod operation;
 mod pattern;
+mod status;
+mod text;
 mod unit;
 
 pub use answer::{Cause, Entry, Note, Turn, Why};
@@ -25,4 +27,6 @@ pub use layout::{Layout, LayoutFault};
 pub use limits::{Config, Fault};
 pub use operation::{Ended, Outcome, UnitHead, Waiting};
 pub use pattern::{Init, Pattern, UnitOp};
+pub use status::Status;
+pub use text::{LineBuf, LineFault, LineWhy, TextError};
 pub use unit::{DiskShape, Failed, GuestId, NoMemory, UnitId};
