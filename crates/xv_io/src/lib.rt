@@ -7,12 +7,17 @@
 // raised the count of the object that it names.
 #![tactic(auto)]
 
+mod count;
+mod memory;
 mod reading;
 mod sink;
 mod source;
+mod standard;
 mod writing;
 
+pub use memory::{MemSink, MemSource};
 pub use reading::{ReadAll, read_all};
 pub use sink::Sink;
 pub use source::Source;
+pub use standard::{StdSink, StdSource};
 pub use writing::{WriteFault, write_text};

@@ -1,6 +1,6 @@
 //! An input as a whole.
 
-ghost use Rattle.std.specs.Prelude.{◌≡◌, ◌+◌, ◌<◌, ◌≤◌, length, take, vec_len, IfOk, IfSome, OnOk, IsErrOf, OnErr};
+ghost use Rattle.std.specs.Prelude.{◌≡◌, ◌+◌, ◌<◌, ◌≤◌, length, take, vec_len, IfErr, IfOk, IfSome, OnOk, IsErrOf, OnErr};
 ghost use Rattle.xv_io.specs.Io.{CountRose, EndsAtZero, GaveAtLeast, IsAtEnd, Moves};
 
 use crate::source::Source;
@@ -35,7 +35,7 @@ pub fn read_all<I: Source>(alloc: Global, source: &mut I, limit: u32) -> Result<
     ensures counts { I.faults source.old ≤ I.faults source.new }
 {
     let most = limit as usize + 1;
-    let mut buffer = vec![in alloc; 0u8; PIECE].map_err(no_memory)?;
+    let mut buffer = zeros(alloc, PIECE)?;
     let mut bytes = Vec::new(alloc);
     while bytes.len() < most {
         let room = most - bytes.len();
@@ -70,6 +70,13 @@ fn read_more<I: Source>(
     };
     bytes.extend_from_slice(&buffer[..n]).map_err(no_memory)?;
     Ok(n)
+}
+
+fn zeros(alloc: Global, size: usize) -> Result<Vec<u8>, ReadAll>
+    ensures size { IfOk result (λ v. vec_len v ≡ size) }
+    ensures memory { IfErr result (λ e. e ≡ ReadAll.NoMemory) }
+{
+    vec![in alloc; 0u8; size].map_err(no_memory)
 }
 
 fn no_memory(_: AllocError) -> ReadAll
