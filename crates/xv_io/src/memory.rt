@@ -36,7 +36,12 @@ impl Model for MemSource {
 impl MemSource {
     /// The input of these bytes. A call gives at most `piece` bytes, and the calls of the numbers in `fails`,
     /// from 1, fail.
-    pub fn new(alloc: Global, bytes: &[u8], piece: u32, fails: &[u32]) -> Result<MemSource, NoMemory>
+    pub fn new(
+        alloc: Global,
+        bytes: &[u8],
+        piece: u32,
+        fails: &[u32],
+    ) -> Result<MemSource, NoMemory>
         requires { 0 < piece }
         ensures { IfOk result (λ s. s ≡ record { left = bytes.now; piece = piece; fails = fails.now; calls = 0; faults = 0 }) }
     {
@@ -68,6 +73,7 @@ impl Source for MemSource {
         ensures ends { IfOk result (λ n. (n ≡ 0) ↔ (self.old.left ≡ [])) }
         ensures stays { OnErr result (self.new.left ≡ self.old.left) }
         ensures calls { self.new.calls ≡ next_count self.old.calls }
+        ensures counts { self.old.faults ≤ self.new.faults }
         ensures faults { self.new.faults ≡ (if is_err result then next_count self.old.faults else self.old.faults) }
         ensures piece { self.new.piece ≡ self.old.piece }
         ensures plan { self.new.fails ≡ self.old.fails }
@@ -147,6 +153,7 @@ impl Sink for MemSink {
         ensures takes { IfOk result (λ n. self.new.taken ≡ self.old.taken ++ take n bytes.now) }
         ensures stays { OnErr result (self.new.taken ≡ self.old.taken) }
         ensures calls { self.new.calls ≡ next_count self.old.calls }
+        ensures counts { self.old.faults ≤ self.new.faults }
         ensures faults { self.new.faults ≡ (if is_err result then next_count self.old.faults else self.old.faults) }
         ensures room { self.new.room ≡ self.old.room }
         ensures piece { self.new.piece ≡ self.old.piece }
@@ -170,6 +177,7 @@ impl Sink for MemSink {
         ensures fails { is_err result ≡ is_listed self.old.fails self.new.calls }
         ensures stays { self.new.taken ≡ self.old.taken }
         ensures calls { self.new.calls ≡ next_count self.old.calls }
+        ensures counts { self.old.faults ≤ self.new.faults }
         ensures faults { self.new.faults ≡ (if is_err result then next_count self.old.faults else self.old.faults) }
         ensures room { self.new.room ≡ self.old.room }
         ensures piece { self.new.piece ≡ self.old.piece }

@@ -1,4 +1,3 @@
-use Rattle.std.proofs.Common.{rules}
 use Rattle.xv_io.proofs.Told.{gave-then}
 use Rattle.xv_io.proofs.reading.read_all.Goals as goal
 

@@ -1,4 +1,4 @@
-use Rattle.std.proofs.Common.{◌≤◌, ◌+◌, ◌<◌, vec_len, ◌≡◌, ℕ, ◌-◌, length}
+use Rattle.std.proofs.Common.{◌≤◌, ◌+◌, ◌<◌, vec_len, ◌≡◌, ◌-◌, length}
 use Rattle.xv_io.specs.Io.{GaveFirst}
 use Rattle.xv_io.proofs.reading.read_all.Given as goal
 

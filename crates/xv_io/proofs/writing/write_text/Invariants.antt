@@ -1,4 +1,4 @@
-use Rattle.std.proofs.Common.{length, take, ◌-◌, ◌≤◌, ◌≡◌, ℕ}
+use Rattle.std.proofs.Common.{length, take, ◌-◌, ◌≤◌}
 use Rattle.xv_io.specs.Io.{TookMore}
 use Rattle.xv_io.proofs.writing.write_text.Given as goal
 
