@@ -30,3 +30,6 @@ pub use pattern::{Init, Pattern, UnitOp};
 pub use status::Status;
 pub use text::{LineBuf, LineFault, LineWhy, TextError};
 pub use unit::{DiskShape, Failed, GuestId, NoMemory, UnitId};
+
+#[cfg(test)]
+mod tests;
