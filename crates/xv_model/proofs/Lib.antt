@@ -1,2 +1,5 @@
+pub mod Bags
+pub mod GoesOn
 pub mod Histories
 pub mod Layouts
+pub mod Steps
