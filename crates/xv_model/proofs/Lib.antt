@@ -3,3 +3,4 @@ pub mod GoesOn
 pub mod Histories
 pub mod Layouts
 pub mod Steps
+pub mod Lists
