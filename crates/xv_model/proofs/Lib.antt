@@ -4,3 +4,4 @@ pub mod Histories
 pub mod Layouts
 pub mod Steps
 pub mod Lists
+pub mod Regions
