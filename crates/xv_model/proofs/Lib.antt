@@ -5,3 +5,4 @@ pub mod Layouts
 pub mod Steps
 pub mod Lists
 pub mod Regions
+pub mod Legal
