@@ -6,3 +6,5 @@ pub mod Steps
 pub mod Lists
 pub mod Regions
 pub mod Legal
+pub mod Cancels
+pub mod Quiet
