@@ -8,3 +8,4 @@ pub mod Regions
 pub mod Legal
 pub mod Cancels
 pub mod Quiet
+pub mod Rounds
