@@ -1,2 +1,3 @@
 pub mod Bags
+pub mod GoesOn
 pub mod Points
