@@ -38,8 +38,9 @@ by_unit P unit same other u = elim (cases_eq u unit) [ inl e ↦ subst P (sym e)
 -- what making one message does
 made-once-same : (bag more : Bag) (issued applied : List ℕ) (m : UnitHead) → m.version ≡ number issued m.unit.0 + 1 → ((test : UnitHead → Bool) → more test ≡ bag test + one (test m)) → EachVersionOnce bag issued applied → (w : ℕ) → number applied m.unit.0 < w → w ≤ m.version → more (is_version m.unit.0 w) ≡ 1
 made-once-same bag more issued applied m next adds p w a b = elim (cases_eq m.version w) [
-    inl e ↦ let k = p.none_to_come m.unit.0 w (omega arith) in let l = one-version m.unit.0 w m refl e in let n = adds (is_version m.unit.0 w) in omega arith
-    | inr ne ↦ let k = p.once m.unit.0 w a (omega arith) in let l = no_version-number m.unit.0 w m ne in let n = adds (is_version m.unit.0 w) in omega arith ]
+  | inl e ↦ let k = p.none_to_come m.unit.0 w (omega arith) in let l = one-version m.unit.0 w m refl e in let n = adds (is_version m.unit.0 w) in omega arith
+  | inr ne ↦ let k = p.once m.unit.0 w a (omega arith) in let l = no_version-number m.unit.0 w m ne in let n = adds (is_version m.unit.0 w) in omega arith
+]
 
 adds-other : (bag more : Bag) (m : UnitHead) → ((test : UnitHead → Bool) → more test ≡ bag test + one (test m)) → (u w : ℕ) → u ≢ m.unit.0 → more (is_version u w) ≡ bag (is_version u w)
 adds-other bag more m adds u w ne = let k = adds (is_version u w) in let l = no_version-unit u w m (λ e. ne (sym e)) in omega arith
@@ -53,16 +54,16 @@ versions-made bag more issued applied m there next adds p =
     let above = p.in_order m.unit.0 in
     record {
       in_order = by_unit (λ u. number applied u ≤ number (set issued m.unit.0 m.version) u) m.unit.0 (omega arith)
-        (λ u ne. rw get_or-set_other (p.in_order u));
+          (λ u ne. rw get_or-set_other (p.in_order u));
       once = by_unit (λ u. (w : ℕ) → number applied u < w → w ≤ number (set issued m.unit.0 m.version) u → more (is_version u w) ≡ 1) m.unit.0
-        (λ w a b. made-once-same bag more issued applied m next adds p w a (omega arith))
-        (λ u ne w a b. adds-other bag more m adds u w ne ∙ p.once u w a (rw (number-set_other issued m.unit.0 m.version u ne) at b));
+          (λ w a b. made-once-same bag more issued applied m next adds p w a (omega arith))
+          (λ u ne w a b. adds-other bag more m adds u w ne ∙ p.once u w a (rw (number-set_other issued m.unit.0 m.version u ne) at b));
       none_applied = by_unit (λ u. (w : ℕ) → w ≤ number applied u → more (is_version u w) ≡ 0) m.unit.0
-        (λ w a. let ne : m.version ≢ w = omega arith in adds-number bag more m adds m.unit.0 w ne ∙ p.none_applied m.unit.0 w a)
-        (λ u ne w a. adds-other bag more m adds u w ne ∙ p.none_applied u w a);
+          (λ w a. let ne : m.version ≢ w = omega arith in adds-number bag more m adds m.unit.0 w ne ∙ p.none_applied m.unit.0 w a)
+          (λ u ne w a. adds-other bag more m adds u w ne ∙ p.none_applied u w a);
       none_to_come = by_unit (λ u. (w : ℕ) → number (set issued m.unit.0 m.version) u < w → more (is_version u w) ≡ 0) m.unit.0
-        (λ w a. let ne : m.version ≢ w = omega arith in adds-number bag more m adds m.unit.0 w ne ∙ p.none_to_come m.unit.0 w (omega arith))
-        (λ u ne w a. adds-other bag more m adds u w ne ∙ p.none_to_come u w (rw (number-set_other issued m.unit.0 m.version u ne) at a));
+          (λ w a. let ne : m.version ≢ w = omega arith in adds-number bag more m adds m.unit.0 w ne ∙ p.none_to_come m.unit.0 w (omega arith))
+          (λ u ne w a. adds-other bag more m adds u w ne ∙ p.none_to_come u w (rw (number-set_other issued m.unit.0 m.version u ne) at a));
     }
 
 -- the bag of an outbox and of what is on the way
@@ -87,14 +88,15 @@ versions-applied bag less issued applied m there next within takes p =
     let same : number (set applied m.unit.0 m.version) m.unit.0 ≡ m.version = number-set_same applied m.unit.0 m.version there in
     record {
       in_order = by_unit (λ u. number (set applied m.unit.0 m.version) u ≤ number issued u) m.unit.0 (omega arith)
-        (λ u ne. rw get_or-set_other (p.in_order u));
+          (λ u ne. rw get_or-set_other (p.in_order u));
       once = by_unit (λ u. (w : ℕ) → number (set applied m.unit.0 m.version) u < w → w ≤ number issued u → less (is_version u w) ≡ 1) m.unit.0
-        (λ w a b. let k = takes (is_version m.unit.0 w) in let l = no_version-number m.unit.0 w m (omega arith) in let n = p.once m.unit.0 w (omega arith) b in omega arith)
-        (λ u ne w a b. let k = takes (is_version u w) in let l = no_version-unit u w m (λ e. ne (sym e)) in let n = p.once u w (rw (number-set_other applied m.unit.0 m.version u ne) at a) b in omega arith);
+          (λ w a b. let k = takes (is_version m.unit.0 w) in let l = no_version-number m.unit.0 w m (omega arith) in let n = p.once m.unit.0 w (omega arith) b in omega arith)
+          (λ u ne w a b. let k = takes (is_version u w) in let l = no_version-unit u w m (λ e. ne (sym e)) in let n = p.once u w (rw (number-set_other applied m.unit.0 m.version u ne) at a) b in omega arith);
       none_applied = by_unit (λ u. (w : ℕ) → w ≤ number (set applied m.unit.0 m.version) u → less (is_version u w) ≡ 0) m.unit.0
-        (λ w a. elim (cases_eq m.version w) [
-            inl e ↦ let k = takes (is_version m.unit.0 w) in let l = one-version m.unit.0 w m refl e in let n = p.once m.unit.0 w (omega arith) (omega arith) in omega arith
-            | inr ne ↦ let k = takes (is_version m.unit.0 w) in let n = p.none_applied m.unit.0 w (omega arith) in omega arith ])
-        (λ u ne w a. let k = takes (is_version u w) in let n = p.none_applied u w (rw (number-set_other applied m.unit.0 m.version u ne) at a) in omega arith);
+          (λ w a. elim (cases_eq m.version w) [
+            | inl e ↦ let k = takes (is_version m.unit.0 w) in let l = one-version m.unit.0 w m refl e in let n = p.once m.unit.0 w (omega arith) (omega arith) in omega arith
+            | inr ne ↦ let k = takes (is_version m.unit.0 w) in let n = p.none_applied m.unit.0 w (omega arith) in omega arith
+          ])
+          (λ u ne w a. let k = takes (is_version u w) in let n = p.none_applied u w (rw (number-set_other applied m.unit.0 m.version u ne) at a) in omega arith);
       none_to_come = λ u w a. let k = takes (is_version u w) in let n = p.none_to_come u w a in omega arith;
     }

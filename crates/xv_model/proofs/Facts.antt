@@ -1,0 +1,39 @@
+-- One step by its three ways, and in what range the units are that messages are made for.
+use Rattle.std.specs.Prelude.{◌≡◌, ◌≤◌, ◌<◌, ℕ, ◌+◌, ◌-◌, Bool, true, false, length, Option, Some, None}
+use Rattle.std.proofs.Common.{arith, refl}
+use Rattle.std.proofs.lemmas.Bool.{ltb-true}
+use Rattle.xv_model.specs.Job.{Job, IsGoodJob, unit_count}
+use Rattle.xv_model.specs.View.{View, disk, front, least}
+use Rattle.xv_model.specs.Wait.{Event, Why, wait, fits, next_operation}
+use Rattle.xv_model.specs.Effect.{effect, fault_effect, cursor_unit}
+use Rattle.xv_model.specs.Step.{step, view_by, breaks}
+use Rattle.xv_model.specs.Invariant.{IsViewOf}
+use Rattle.xv_model.proofs.GoesOn.{GuestGoes, AdvanceGoes, ReleaseGoes, PageGoes}
+use Rattle.xv_model.proofs.Layouts.{is_block_after}
+
+-- a step waits, goes on, or breaks
+view_by-cases : (P : View → Type 0) (job : Job) (v : View) (e : Event) (why : Option Why) (broken : Bool) → P v → (why ≡ None → broken ≡ false → P (effect job v e)) → (why ≡ None → broken ≡ true → P (fault_effect v e)) → P (view_by why broken job v e)
+view_by-cases P job v e (Some why) broken p goes broke = p
+view_by-cases P job v e None false p goes broke = goes refl refl
+view_by-cases P job v e None true p goes broke = broke refl refl
+
+pub step_cases : (P : View → Type 0) (job : Job) (v : View) (e : Event) (flag : Bool) → P v → (wait job v e flag ≡ None → breaks job v e flag ≡ false → P (effect job v e)) → (wait job v e flag ≡ None → breaks job v e flag ≡ true → P (fault_effect v e)) → P (step job v e flag)
+step_cases P job v e flag p goes broke = view_by-cases P job v e (wait job v e flag) (breaks job v e flag) p goes broke
+
+-- the units that messages are made for
+pub mirror_unit : (job : Job) (v : View) (g : ℕ) → IsGoodJob job → GuestGoes job v g → (next_operation job v g).unit.0 < unit_count job
+mirror_unit job v g good goes = (good.legal g _ goes.more).unit_is
+
+pub front_unit : (job : Job) (v : View) (d : ℕ) → IsViewOf job v → ReleaseGoes job v d → (front (disk v d)).unit.0 < unit_count job
+front_unit job v d inv goes = (inv.queues.of_disk d 0 goes.some_queue).1
+
+pub page_unit : (job : Job) (v : View) → IsViewOf job v → PageGoes job v → least v.to_send < unit_count job
+page_unit job v inv goes = omega (arith, goes.in_range, inv.lists.to_send)
+
+pub region_units : (job : Job) (v : View) (d : ℕ) → d < length job.shape.disks → IsViewOf job v → AdvanceGoes job v d → cursor_unit job v d + (disk v d).region ≤ unit_count job
+region_units job v d there inv goes =
+    let k = (disk v d).region - 1 in
+    let some = goes.some_region in
+    let fits = inv.regions.cursor_fits d (omega (arith, inv.lists.disks)) in
+    let last = (is_block_after job.shape d (disk v d).cursor k there (omega arith)).in_range in
+    omega arith
