@@ -1,2 +1,4 @@
 pub mod Versions
 pub mod VersionSteps
+pub mod Times
+pub mod TimeSteps
