@@ -3,6 +3,7 @@ use Rattle.std.specs.Prelude.{◌≡◌, ◌≤◌, ◌<◌, ℕ, zero, suc, ◌
 use Rattle.std.proofs.Common.{arith, refl, ap, sym, subst, inl, inr, ◌∙◌}
 use Rattle.std.proofs.lemmas.Bool.{ltb-true, cases_eq, cases_lt}
 use Rattle.std.proofs.lemmas.List.{length-take, length-drop, length_push, get_or_append_left, get_or_push, get_or-drop}
+use Rattle.std.proofs.lemmas.List.Sums.{sum_by_push, sum_by-cons}
 use Rattle.xv_model.specs.Job.{Job, UnitOp, IsGoodJob, unit_count}
 use Rattle.xv_model.specs.View.{View, Outbox, UnitHead, disk, front, number, least, is_running, is_ready, ready_message}
 use Rattle.xv_model.specs.Wait.{Event, Aim, Alone, Store, Join, Mirror, wait, fits, next_operation, next_aim}
@@ -80,19 +81,19 @@ whole-applied_next job v inv e = record {
 }
 
 sum-push : (ns : List ℕ) (n : ℕ) → sum (ns ++ n ∷ []) ≡ sum ns + n
-sum-push [] n = omega arith
-sum-push (m ∷ ns) n = let h = sum-push ns n in omega arith
+sum-push ns n = sum_by_push (λ (k : ℕ). k) ns n
 
 sum-drop : (ns : List ℕ) → number ns 0 + sum (drop 1 ns) ≡ sum ns
 sum-drop [] = refl
-sum-drop (n ∷ ns) = refl
+sum-drop (n ∷ ns) = sym (sum_by-cons (λ (k : ℕ). k) n ns)
 
 pub whole-acknowledged : (job : Job) (v : View) → IsViewOf job v → 0 < v.freed → IsWhole job (acknowledged v)
 whole-acknowledged job v inv some = record {
   sums = let a = sum-push v.acks v.freed in let b = inv.credit.sums in omega arith;
   each_ack = λ i there. elim (cases_lt i (length v.acks)) [
-      inl before ↦ let a = get_or_append_left v.acks (v.freed ∷ []) 0 i before in let b = inv.credit.each_ack i before in omega arith
-      | inr past ↦ let a = get_or_push v.acks v.freed 0 i (omega (arith, length_push v.acks v.freed)) in omega arith ];
+    | inl before ↦ let a = get_or_append_left v.acks (v.freed ∷ []) 0 i before in let b = inv.credit.each_ack i before in omega arith
+    | inr past ↦ let a = get_or_push v.acks v.freed 0 i (omega (arith, length_push v.acks v.freed)) in omega arith
+  ];
   outbox_fits = inv.credit.outbox_fits;
 }
 

@@ -65,18 +65,19 @@ rises-applied_next job v inv e =
     record {
       rising = inv.outbox.rising;
       above_sent = λ i version within h.
-        let a = on_the_way-applied v e (is_version (message_at v.outbox.messages i).unit.0 version) in
-        inv.outbox.above_sent i version within (omega arith);
+          let a = on_the_way-applied v e (is_version (message_at v.outbox.messages i).unit.0 version) in
+          inv.outbox.above_sent i version within (omega arith);
       above_applied = λ i within. elim (cases_eq (message_at v.outbox.messages i).unit.0 m.unit.0) [
-          inl is ↦
+        | inl is ↦
             let way = ready-on_the_way v e (is_version (message_at v.outbox.messages i).unit.0 m.version) (is_version-from (message_at v.outbox.messages i).unit.0 m.version m (sym is) refl) in
             let a = inv.outbox.above_sent i m.version within way in
             let b = ap (number (set v.hold.applied m.unit.0 m.version)) is in
             omega arith
-          | inr ne ↦
+        | inr ne ↦
             let a = inv.outbox.above_applied i within in
             let b = number-set_other v.hold.applied m.unit.0 m.version (message_at v.outbox.messages i).unit.0 ne in
-            omega arith ];
+            omega arith
+      ];
     }
 
 rises-effect : (job : Job) (v : View) (e : Event) (flag : Bool) → IsGoodJob job → fits job e ≡ true → IsViewOf job v → wait job v e flag ≡ None → Rises (effect job v e)

@@ -41,7 +41,7 @@ rises-made box way applied unit at p o =
     let long = length_push messages m in
     record {
       rising = λ i j lt there same. elim (cases_lt j (length messages)) [
-          inl before ↦
+        | inl before ↦
             let a = push-before messages m i (omega arith) in
             let b = push-before messages m j before in
             let c : (message_at messages i).unit.0 ≡ (message_at messages j).unit.0 = ap (λ (x : UnitHead). x.unit.0) (sym a) ∙ same ∙ ap (λ (x : UnitHead). x.unit.0) b in
@@ -49,7 +49,7 @@ rises-made box way applied unit at p o =
             let e = ap (λ (x : UnitHead). x.version) a in
             let f = ap (λ (x : UnitHead). x.version) b in
             omega arith
-          | inr past ↦
+        | inr past ↦
             let a = push-before messages m i (omega arith) in
             let b = push-last messages m j (omega arith) in
             let c : (message_at messages i).unit.0 ≡ unit = ap (λ (x : UnitHead). x.unit.0) (sym a) ∙ same ∙ ap (λ (x : UnitHead). x.unit.0) b in
@@ -57,26 +57,29 @@ rises-made box way applied unit at p o =
             let e = ap (λ (x : UnitHead). x.version) a in
             let f : (message_at (messages ++ m ∷ []) j).version ≡ number box.issued unit + 1 = ap (λ (x : UnitHead). x.version) b in
             let g = ap (number box.issued) c in
-            omega arith ];
+            omega arith
+      ];
       above_sent = λ i version there h. elim (cases_lt i (length messages)) [
-          inl before ↦
+        | inl before ↦
             let a = push-before messages m i before in
             let b = o.above_sent i version before (subst (λ (x : UnitHead). 0 < way (is_version x.unit.0 version)) a h) in
             let e = ap (λ (x : UnitHead). x.version) a in
             omega arith
-          | inr past ↦
+        | inr past ↦
             let a = push-last messages m i (omega arith) in
             let b = in_way-within box way applied unit version p (subst (λ (x : UnitHead). 0 < way (is_version x.unit.0 version)) a h) in
             let f : (message_at (messages ++ m ∷ []) i).version ≡ number box.issued unit + 1 = ap (λ (x : UnitHead). x.version) a in
-            omega arith ];
+            omega arith
+      ];
       above_applied = λ i there. elim (cases_lt i (length messages)) [
-          inl before ↦
+        | inl before ↦
             let a = push-before messages m i before in
             subst (λ (x : UnitHead). number applied x.unit.0 < x.version) (sym a) (o.above_applied i before)
-          | inr past ↦
+        | inr past ↦
             let a = push-last messages m i (omega arith) in
             let b = p.in_order unit in
-            subst (λ (x : UnitHead). number applied x.unit.0 < x.version) (sym a) (omega arith) ];
+            subst (λ (x : UnitHead). number applied x.unit.0 < x.version) (sym a) (omega arith)
+      ];
     }
 
 -- a message past the first n is above each of its unit's versions on the way and among those n
@@ -97,8 +100,9 @@ above_both : (messages : List UnitHead) (way more : Bag) (applied : List ℕ) (n
 above_both messages way more applied n i version adds o there h =
     let test = is_version (message_at messages (n + i)).unit.0 version in
     elim (cases_lt 0 (way test)) [
-      inl sent_before ↦ o.above_sent (n + i) version there sent_before
-      | inr not ↦ above_taken messages way applied n i version o there (let a = adds test in omega arith) ]
+      | inl sent_before ↦ o.above_sent (n + i) version there sent_before
+      | inr not ↦ above_taken messages way applied n i version o there (let a = adds test in omega arith)
+    ]
 
 -- what sending the first n messages does
 pub rises-dropped : (messages : List UnitHead) (way more : Bag) (applied : List ℕ) (n : ℕ) → ((test : UnitHead → Bool) → more test ≡ way test + count test (take n messages)) → OutboxRises messages way applied → OutboxRises (drop n messages) more applied
@@ -107,15 +111,15 @@ rises-dropped messages way more applied n adds o =
     let long = length-drop n messages in
     record {
       rising = λ i j lt there same.
-        let c : (message_at messages (n + i)).unit.0 ≡ (message_at messages (n + j)).unit.0 = ap (λ (x : UnitHead). x.unit.0) (sym (at i)) ∙ same ∙ ap (λ (x : UnitHead). x.unit.0) (at j) in
-        let d = o.rising (n + i) (n + j) (omega arith) (omega arith) c in
-        let e = ap (λ (x : UnitHead). x.version) (at i) in
-        let f = ap (λ (x : UnitHead). x.version) (at j) in
-        omega arith;
+          let c : (message_at messages (n + i)).unit.0 ≡ (message_at messages (n + j)).unit.0 = ap (λ (x : UnitHead). x.unit.0) (sym (at i)) ∙ same ∙ ap (λ (x : UnitHead). x.unit.0) (at j) in
+          let d = o.rising (n + i) (n + j) (omega arith) (omega arith) c in
+          let e = ap (λ (x : UnitHead). x.version) (at i) in
+          let f = ap (λ (x : UnitHead). x.version) (at j) in
+          omega arith;
       above_sent = λ i version there h.
-        let e = ap (λ (x : UnitHead). x.version) (at i) in
-        let k : 0 < more (is_version (message_at messages (n + i)).unit.0 version) = subst (λ (x : UnitHead). 0 < more (is_version x.unit.0 version)) (at i) h in
-        let l = above_both messages way more applied n i version adds o (omega arith) k in
-        omega arith;
+          let e = ap (λ (x : UnitHead). x.version) (at i) in
+          let k : 0 < more (is_version (message_at messages (n + i)).unit.0 version) = subst (λ (x : UnitHead). 0 < more (is_version x.unit.0 version)) (at i) h in
+          let l = above_both messages way more applied n i version adds o (omega arith) k in
+          omega arith;
       above_applied = λ i there. subst (λ (x : UnitHead). number applied x.unit.0 < x.version) (sym (at i)) (o.above_applied (n + i) (omega arith));
     }
