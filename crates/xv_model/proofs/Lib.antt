@@ -4,3 +4,4 @@ pub mod Histories
 pub mod Layouts
 pub mod Facts
 pub mod Points
+pub mod First
