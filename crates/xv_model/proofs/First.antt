@@ -1,16 +1,15 @@
 -- The first view meets the invariant.
-use Rattle.std.specs.Prelude.{◌≡◌, ◌≤◌, ◌<◌, ℕ, zero, suc, ◌+◌, Bool, true, false, List, [], ◌∷◌, length, map, replicate, get_or, Some, None}
-use Rattle.std.proofs.Common.{arith, refl, ap, sym, ◌∙◌, inl, inr}
-use Rattle.std.proofs.lemmas.Bool.{cases_lt}
-use Rattle.std.proofs.lemmas.List.{length-map, length-replicate, get_or-replicate, get_or_past}
+use Rattle.std.specs.Prelude.{◌≡◌, ◌<◌, ℕ, zero, suc, Bool, true, false, List, [], ◌∷◌, length, map, replicate, get_or, None}
+use Rattle.std.proofs.Common.{arith, refl, ap, inl, inr}
+use Rattle.std.proofs.lemmas.List.{length-map, length-replicate, get_or-replicate}
 use Rattle.xv_base.specs.declared.unit.DiskShape.{DiskShape}
-use Rattle.xv_model.specs.Job.{Job, Shape, IsGoodJob, unit_count, disk_of}
+use Rattle.xv_model.specs.Job.{Job, IsGoodJob, unit_count, disk_of}
 use Rattle.xv_model.specs.Guest.{wrote, writes}
-use Rattle.xv_model.specs.View.{View, Disk, UnitHead, no_disk, first_view, number, member, members, all_copied}
+use Rattle.xv_model.specs.View.{Disk, UnitHead, no_disk, first_view, number, member, all_copied}
 use Rattle.xv_model.specs.Wait.{next_operation}
-use Rattle.xv_model.specs.Outstanding.{Bag, count_streams, on_the_way, outstanding, any, is_message}
-use Rattle.xv_model.specs.Invariant.{EachVersionOnce, TimesRise, TipCovers, UnsentHaveNone, EachWriteOnce, OutboxRises, CreditIsWhole, RegionsFit, RoundsCount, QueuesWait, HistoryIsLegal, StunIsQuiet, CancelHolds, ListsHaveLengths, IsViewOf, is_settled, is_behind_block, is_unsent_block, waits_in_all, are_good_groups}
-use Rattle.xv_model.proofs.GoesOn.{member-lt, member-none, members-le}
+use Rattle.xv_model.specs.Outstanding.{count_streams, on_the_way, outstanding, any, is_message}
+use Rattle.xv_model.specs.Invariant.{EachVersionOnce, TimesRise, TipCovers, EachWriteOnce, OutboxRises, CreditIsWhole, RegionsFit, RoundsCount, QueuesWait, HistoryIsLegal, StunIsQuiet, CancelHolds, ListsHaveLengths, IsViewOf, is_settled, is_behind_block, waits_in_all, are_good_groups}
+use Rattle.xv_model.proofs.GoesOn.{member-none, members-le}
 use Rattle.xv_model.proofs.Layouts.{page_below, settled_cases, behind_block}
 
 -- a number or an element that stands in each place

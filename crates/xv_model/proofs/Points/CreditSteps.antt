@@ -1,15 +1,15 @@
 -- The credit stays whole, and the outbox within its limit, over each event.
-use Rattle.std.specs.Prelude.{◌≡◌, ◌≤◌, ◌<◌, ℕ, zero, suc, ◌+◌, ◌-◌, min, sum, Bool, true, false, List, [], ◌∷◌, ◌++◌, length, take, drop, None, if◌then◌else◌}
-use Rattle.std.proofs.Common.{arith, refl, ap, sym, subst, inl, inr, ◌∙◌}
-use Rattle.std.proofs.lemmas.Bool.{ltb-true, cases_eq, cases_lt}
+use Rattle.std.specs.Prelude.{◌≡◌, ◌≤◌, ◌<◌, ℕ, ◌+◌, sum, Bool, true, false, List, [], ◌∷◌, ◌++◌, length, take, drop, None, if◌then◌else◌}
+use Rattle.std.proofs.Common.{arith, refl, sym, inl, inr}
+use Rattle.std.proofs.lemmas.Bool.{ltb-true, cases_lt}
 use Rattle.std.proofs.lemmas.List.{length-take, length-drop, length_push, get_or_append_left, get_or_push, get_or-drop}
 use Rattle.std.proofs.lemmas.List.Sums.{sum_by_push, sum_by-cons}
-use Rattle.xv_model.specs.Job.{Job, UnitOp, IsGoodJob, unit_count}
-use Rattle.xv_model.specs.View.{View, Outbox, UnitHead, disk, front, number, least, is_running, is_ready, ready_message}
+use Rattle.xv_model.specs.Job.{Job, UnitOp, IsGoodJob}
+use Rattle.xv_model.specs.View.{View, UnitHead, disk, front, number, least, is_running, is_ready}
 use Rattle.xv_model.specs.Wait.{Event, Aim, Alone, Store, Join, Mirror, wait, fits, next_operation, next_aim}
 use Rattle.xv_model.specs.Effect.{effect, fault_effect, made, guest_by, advanced, released, page_sent_off, sent, batch, delivered, applied_next, acknowledged, credited, cursor_unit}
 use Rattle.xv_model.specs.Step.{step}
-use Rattle.xv_model.specs.Outstanding.{Bag, count, on_the_way, any}
+use Rattle.xv_model.specs.Outstanding.{count, on_the_way, any}
 use Rattle.xv_model.specs.Invariant.{CreditIsWhole, IsViewOf}
 use Rattle.xv_base.specs.declared.event.Event.TheVariants.{Guest, Begin, Read, Advance, Release, Round, Page, Send, Deliver, Apply, Ack, Credit, Stun, Switch, Cancel}
 use Rattle.xv_model.proofs.Bags.{new_message, length-messages-run, on_the_way-applied, on_the_way-sent, on_the_way-delivered}

@@ -1,9 +1,9 @@
 -- In the outbox the versions of one unit rise, above every version sent, held or applied, over each event.
-use Rattle.std.specs.Prelude.{◌≡◌, ◌≢◌, ◌≤◌, ◌<◌, ℕ, zero, suc, ◌+◌, Bool, true, false, List, length, set, None, if◌then◌else◌}
+use Rattle.std.specs.Prelude.{◌≡◌, ◌≤◌, ◌<◌, ℕ, zero, suc, ◌+◌, Bool, true, false, List, length, set, None, if◌then◌else◌}
 use Rattle.std.proofs.Common.{arith, refl, ap, sym, subst, inl, inr}
 use Rattle.std.proofs.lemmas.Bool.{ltb-true, cases_eq}
 use Rattle.xv_model.specs.Job.{Job, UnitOp, IsGoodJob, unit_count}
-use Rattle.xv_model.specs.View.{View, Outbox, UnitHead, disk, front, number, least, is_running, is_ready, ready_message}
+use Rattle.xv_model.specs.View.{View, Outbox, disk, front, number, least, is_running, is_ready, ready_message}
 use Rattle.xv_model.specs.Wait.{Event, Aim, Alone, Store, Join, Mirror, wait, fits, next_operation, next_aim}
 use Rattle.xv_model.specs.Effect.{effect, fault_effect, made, made_run, guest_by, advanced, released, page_sent_off, sent, batch, delivered, applied_next, cursor_unit}
 use Rattle.xv_model.specs.Step.{step}
@@ -13,7 +13,7 @@ use Rattle.xv_base.specs.declared.event.Event.TheVariants.{Guest, Begin, Read, A
 use Rattle.xv_model.proofs.Bags.{is_version-from, on_the_way-applied, on_the_way-sent, on_the_way-delivered-bag, ready-on_the_way, ready-outstanding, version-unit}
 use Rattle.xv_model.proofs.GoesOn.{advance_goes, apply_goes}
 use Rattle.xv_model.proofs.Facts.{step_cases, region_units}
-use Rattle.xv_model.proofs.Points.Versions.{one, box_bag, versions-made_run, number-set_same, number-set_other}
+use Rattle.xv_model.proofs.Points.Versions.{box_bag, versions-made_run, number-set_same, number-set_other}
 use Rattle.xv_model.proofs.Points.Outboxes.{rises-made, rises-dropped}
 
 -- the point of a view

@@ -1,20 +1,14 @@
 -- In the outbox the versions of one unit rise, above every version sent, held or applied, over each event.
-use Rattle.std.specs.Prelude.{◌≡◌, ◌≢◌, ◌⊎◌, ◌≤◌, ◌<◌, ℕ, zero, suc, ◌+◌, ◌-◌, min, Bool, true, false, List, [], ◌∷◌, ◌++◌, length, take, drop, set, get_or, None, if◌then◌else◌}
+use Rattle.std.specs.Prelude.{◌≡◌, ◌≤◌, ◌<◌, ℕ, ◌+◌, Bool, true, List, [], ◌∷◌, ◌++◌, length, take, drop}
 use Rattle.std.proofs.Common.{arith, refl, ap, sym, subst, inl, inr, ◌∙◌}
-use Rattle.std.proofs.lemmas.Bool.{ltb-true, cases_eq, cases_lt}
-use Rattle.std.proofs.lemmas.List.{length-take, length-drop, length_push, get_or_append_left, get_or_push, get_or-take, get_or-drop, get_or-set_other}
-use Rattle.xv_model.specs.Job.{Job, UnitOp, IsGoodJob, unit_count}
-use Rattle.xv_model.specs.View.{View, Outbox, UnitHead, disk, front, number, least, is_running, is_ready, no_message, ready_message}
-use Rattle.xv_model.specs.Wait.{Event, Aim, Alone, Store, Join, Mirror, wait, fits, next_operation, next_aim}
-use Rattle.xv_model.specs.Effect.{effect, fault_effect, made, made_run, guest_by, advanced, released, page_sent_off, sent, batch, delivered, applied_next, cursor_unit}
-use Rattle.xv_model.specs.Step.{step}
-use Rattle.xv_model.specs.Outstanding.{Bag, count, on_the_way, outstanding, is_version}
-use Rattle.xv_model.specs.Invariant.{EachVersionOnce, OutboxRises, message_at, IsViewOf}
-use Rattle.xv_base.specs.declared.event.Event.TheVariants.{Guest, Begin, Read, Advance, Release, Round, Page, Send, Deliver, Apply, Ack, Credit, Stun, Switch, Cancel}
-use Rattle.xv_model.proofs.Bags.{new_message, place-count, count-place, is_version-unit, is_version-number, is_version-from, on_the_way-applied, on_the_way-sent, on_the_way-delivered-bag, ready-on_the_way, version-within}
-use Rattle.xv_model.proofs.GoesOn.{guest_goes, advance_goes, release_goes, page_goes, apply_goes}
-use Rattle.xv_model.proofs.Facts.{step_cases, region_units}
-use Rattle.xv_model.proofs.Points.Versions.{one, by_unit, box_bag, versions-made_run, number-set_same, number-set_other}
+use Rattle.std.proofs.lemmas.Bool.{cases_lt}
+use Rattle.std.proofs.lemmas.List.{length-take, length-drop, length_push, get_or_append_left, get_or_push, get_or-take, get_or-drop}
+use Rattle.xv_model.specs.View.{Outbox, UnitHead, number, no_message}
+use Rattle.xv_model.specs.Effect.{made}
+use Rattle.xv_model.specs.Outstanding.{Bag, count, is_version}
+use Rattle.xv_model.specs.Invariant.{EachVersionOnce, OutboxRises, message_at}
+use Rattle.xv_model.proofs.Bags.{new_message, place-count, count-place, is_version-unit, is_version-number, is_version-from, version-within}
+use Rattle.xv_model.proofs.Points.Versions.{box_bag}
 
 -- the messages before the new one, and the new one
 push-before : (messages : List UnitHead) (m : UnitHead) (i : ℕ) → i < length messages → message_at (messages ++ m ∷ []) i ≡ message_at messages i

@@ -1,10 +1,10 @@
 -- The times of messages rise with their versions, over each event.
-use Rattle.std.specs.Prelude.{◌≡◌, ◌≤◌, ◌<◌, ℕ, zero, suc, ◌+◌, Bool, true, false, not, ◌&&◌, List, length, set, None, if◌then◌else◌}
-use Rattle.std.proofs.Common.{arith, refl, ap, sym, subst}
-use Rattle.std.proofs.lemmas.Bool.{ltb-true, cases_Bool}
+use Rattle.std.specs.Prelude.{◌≡◌, ◌≤◌, ◌<◌, ℕ, zero, suc, ◌+◌, Bool, true, false, length, None, if◌then◌else◌}
+use Rattle.std.proofs.Common.{arith, refl, sym, subst}
+use Rattle.std.proofs.lemmas.Bool.{ltb-true}
 use Rattle.xv_model.specs.Job.{Job, UnitOp, IsGoodJob, unit_count}
-use Rattle.xv_model.specs.View.{View, Outbox, UnitHead, Phase, disk, front, number, least, is_running, is_live, is_ready, ready_message}
-use Rattle.xv_model.specs.Wait.{Event, Aim, Alone, Store, Join, Mirror, aim, wait, fits, next_operation, next_aim}
+use Rattle.xv_model.specs.View.{View, Outbox, disk, front, least, is_running, is_live, is_ready, ready_message}
+use Rattle.xv_model.specs.Wait.{Event, Aim, Alone, Store, Join, Mirror, wait, fits, next_operation, next_aim}
 use Rattle.xv_model.specs.Effect.{effect, fault_effect, made, made_run, guest_by, advanced, released, page_sent_off, sent, delivered, applied_next, cursor_unit}
 use Rattle.xv_model.specs.Step.{step}
 use Rattle.xv_model.specs.Outstanding.{Bag, on_the_way, outstanding, is_version, is_message}

@@ -1,20 +1,12 @@
 -- The times of messages rise with their versions, over each event.
-use Rattle.std.specs.Prelude.{◌≡◌, ◌≢◌, ◌⊎◌, ◌≤◌, ◌<◌, ℕ, zero, suc, ◌+◌, Bool, true, false, not, ◌&&◌, List, length, set, None, if◌then◌else◌}
-use Rattle.std.proofs.Common.{arith, refl, ap, sym, subst, inl, inr, ◌∙◌}
-use Rattle.std.proofs.lemmas.Bool.{ltb-true, cases_Bool, cases_eq, cases_lt}
-use Rattle.std.proofs.lemmas.List.{get_or-set_other}
-use Rattle.xv_model.specs.Job.{Job, UnitOp, IsGoodJob, unit_count}
-use Rattle.xv_model.specs.View.{View, Outbox, UnitHead, Phase, disk, front, number, least, is_running, is_live, is_ready, ready_message}
-use Rattle.xv_model.specs.Wait.{Event, Aim, Alone, Store, Join, Mirror, aim, wait, fits, next_operation, next_aim, is_join, is_mirror}
-use Rattle.xv_model.specs.Effect.{effect, fault_effect, made, made_run, guest_by, guest_done, advanced, released, page_sent_off, sent, delivered, applied_next, ended_as, cursor_unit}
-use Rattle.xv_model.specs.Step.{step}
-use Rattle.xv_model.specs.Outstanding.{Bag, on_the_way, outstanding, is_version, is_message}
-use Rattle.xv_model.specs.Invariant.{EachVersionOnce, TimesRise, IsViewOf}
-use Rattle.xv_base.specs.declared.event.Event.TheVariants.{Guest, Begin, Read, Advance, Release, Round, Page, Send, Deliver, Apply, Ack, Credit, Stun, Switch, Cancel}
-use Rattle.xv_model.proofs.Bags.{new_message, is_version-unit, is_version-number, is_message-version, is_message-at, outstanding-applied, ready-next, ready-outstanding, ready-itself, message-has-version, outstanding-sent-bag, outstanding-delivered-bag, version-above, version-within, version-unit}
-use Rattle.xv_model.proofs.GoesOn.{guest_goes, advance_goes, release_goes, page_goes, apply_goes, aim-mirror, running_is_live}
-use Rattle.xv_model.proofs.Facts.{step_cases}
-use Rattle.xv_model.proofs.Points.Versions.{one, by_unit, box_bag, box_bag-made, versions-made_run, number-set_same, number-set_other}
+use Rattle.std.specs.Prelude.{◌≡◌, ◌⊎◌, ◌≤◌, ◌<◌, ℕ, ◌+◌, Bool, true, List, length, set}
+use Rattle.std.proofs.Common.{arith, ap, inl, inr}
+use Rattle.std.proofs.lemmas.Bool.{cases_Bool}
+use Rattle.xv_model.specs.View.{UnitHead, number}
+use Rattle.xv_model.specs.Outstanding.{Bag, is_version, is_message}
+use Rattle.xv_model.specs.Invariant.{EachVersionOnce, TimesRise}
+use Rattle.xv_model.proofs.Bags.{is_version-unit, is_version-number, is_message-version, is_message-at, version-above, version-within}
+use Rattle.xv_model.proofs.Points.Versions.{one, by_unit, number-set_same, number-set_other}
 
 -- a message counted in a bag with one more was there, or is the one more
 pub more-cases : (bag more : Bag) (m : UnitHead) → ((test : UnitHead → Bool) → more test ≡ bag test + one (test m)) → (test : UnitHead → Bool) → 0 < more test → (0 < bag test) ⊎ (test m ≡ true)

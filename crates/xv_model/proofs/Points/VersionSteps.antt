@@ -1,11 +1,11 @@
 -- Each version stays outstanding once, over each event.
-use Rattle.std.specs.Prelude.{◌≡◌, ◌≤◌, ◌<◌, ℕ, ◌+◌, Bool, true, false, List, length, set, None, if◌then◌else◌}
-use Rattle.std.proofs.Common.{arith, refl, sym, subst}
+use Rattle.std.specs.Prelude.{◌≡◌, ◌≤◌, ◌<◌, ℕ, ◌+◌, Bool, true, false, length, None, if◌then◌else◌}
+use Rattle.std.proofs.Common.{arith, sym, subst}
 use Rattle.std.proofs.lemmas.Bool.{ltb-true}
 use Rattle.xv_model.specs.Job.{Job, UnitOp, IsGoodJob, unit_count}
-use Rattle.xv_model.specs.View.{View, Outbox, Phase, disk, front, number, least, is_running, is_ready, ready_message}
+use Rattle.xv_model.specs.View.{View, disk, front, least, is_running, is_ready, ready_message}
 use Rattle.xv_model.specs.Wait.{Event, Aim, Alone, Store, Join, Mirror, wait, fits, next_operation, next_aim}
-use Rattle.xv_model.specs.Effect.{effect, fault_effect, made, guest_by, guest_done, begun, block_read, advanced, released, round_begun, page_sent_off, sent, delivered, applied_next, acknowledged, credited, stunned, switched, given_up, ended_as, cursor_unit}
+use Rattle.xv_model.specs.Effect.{effect, fault_effect, made, guest_by, advanced, released, page_sent_off, sent, delivered, applied_next, cursor_unit}
 use Rattle.xv_model.specs.Step.{step}
 use Rattle.xv_model.specs.Outstanding.{Bag, on_the_way, outstanding}
 use Rattle.xv_model.specs.Invariant.{EachVersionOnce, IsViewOf}

@@ -1,15 +1,14 @@
 -- For each unit exactly the versions above the one applied, up to the one issued, are outstanding, each once: what
 -- making and applying messages does to that.
-use Rattle.std.specs.Prelude.{◌≡◌, ◌≢◌, ◌⊎◌, ◌≤◌, ◌<◌, ℕ, zero, suc, ◌+◌, Bool, true, false, List, [], ◌∷◌, length, set, if◌then◌else◌}
+use Rattle.std.specs.Prelude.{◌≡◌, ◌≢◌, ◌≤◌, ◌<◌, ℕ, zero, suc, ◌+◌, Bool, List, length, set, if◌then◌else◌}
 use Rattle.std.proofs.Common.{arith, refl, ap, sym, subst, ◌∙◌, inl, inr}
-use Rattle.std.proofs.lemmas.Bool.{and_parts, and_from, eqb-true, eq-eqb, ltb-true, cases_Bool, cases_eq, cases_lt}
-use Rattle.std.proofs.lemmas.List.{get_or-set_same, get_or-set_other, length-set}
-use Rattle.xv_model.specs.Job.{Job}
-use Rattle.xv_model.specs.View.{View, Outbox, Hold, UnitHead, no_message, number, ready, ready_message, is_ready}
-use Rattle.xv_model.specs.Effect.{made, made_run, sent, delivered, applied_next}
-use Rattle.xv_model.specs.Outstanding.{Bag, count, on_the_way, outstanding, is_version, is_message}
-use Rattle.xv_model.specs.Invariant.{EachVersionOnce, IsViewOf}
-use Rattle.xv_model.proofs.Bags.{new_message, count-made, is_version-unit, is_version-number, is_version-from, length-issued-run, outstanding-applied, ready-next, outstanding-sent-bag, outstanding-delivered-bag, version-within, version-unit}
+use Rattle.std.proofs.lemmas.Bool.{cases_Bool, cases_eq}
+use Rattle.std.proofs.lemmas.List.{get_or-set_same, get_or-set_other}
+use Rattle.xv_model.specs.View.{Outbox, UnitHead, number}
+use Rattle.xv_model.specs.Effect.{made, made_run}
+use Rattle.xv_model.specs.Outstanding.{Bag, count, is_version}
+use Rattle.xv_model.specs.Invariant.{EachVersionOnce}
+use Rattle.xv_model.proofs.Bags.{new_message, count-made, is_version-unit, is_version-number, is_version-from, length-issued-run}
 
 -- a set number
 pub number-set_same : (ns : List ℕ) (unit n : ℕ) → unit < length ns → number (set ns unit n) unit ≡ n
