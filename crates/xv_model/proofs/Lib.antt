@@ -1,2 +1,7 @@
 pub mod Bags
 pub mod GoesOn
+pub mod Histories
+pub mod Layouts
+pub mod Makes
+pub mod Steps
+pub mod Unsent
