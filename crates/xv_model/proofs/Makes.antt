@@ -1,11 +1,11 @@
 -- What the making of messages does to one unit: nothing, or one version more.
-use Rattle.std.proofs.Common.{◌≡◌, ◌≢◌, ◌≤◌, ◌<◌, ◌⊎◌, inl, inr, ℕ, zero, suc, ◌+◌, ◌-◌, Bool, true, false, List, [], ◌∷◌, ◌++◌, length, get_or, set, refl, sym, ap, ◌∙◌, arith}
+use Rattle.std.proofs.Common.{◌≡◌, ◌≢◌, ◌≤◌, ◌<◌, ◌⊎◌, inl, inr, ℕ, zero, suc, ◌+◌, Bool, true, false, List, length, set, refl, sym, ap, ◌∙◌, arith}
 use Rattle.std.specs.Prelude.{◌==◌, if◌then◌else◌}
-use Rattle.std.proofs.lemmas.Bool.{cases_Bool, cases_eq, cases_lt, eq-eqb, ne_eqb}
+use Rattle.std.proofs.lemmas.Bool.{cases_Bool, cases_eq, eq-eqb, ne_eqb}
 use Rattle.std.proofs.lemmas.List.{get_or-set_same, get_or-set_other, length-set}
 use Rattle.xv_model.specs.View.{Outbox, UnitHead, number}
 use Rattle.xv_model.specs.Effect.{made, made_run}
-use Rattle.xv_model.specs.Outstanding.{Bag, count, is_version, is_message}
+use Rattle.xv_model.specs.Outstanding.{Bag, count, is_message}
 use Rattle.xv_model.proofs.Bags.{new_message, count-made, is_version-unit, is_version-number, is_message-version, is_message-at}
 
 -- the messages of an outbox together with the rest
@@ -29,8 +29,8 @@ made-positive rest box unit at test h = elim (cases_Bool (test (new_message box 
   | inl e ↦ inr e
   | inr e ↦
       let c = count-made test box unit at in
-      let d : (if test (new_message box unit at) then 1 else 0) ≡ 0 = rw e refl in
-      inl (omega (arith, c, d, h))
+      let d : with_rest rest (made box unit at) test ≡ with_rest rest box test + 0 = omega (arith, rw e at c) in
+      inl (omega (arith, d, h))
 ]
 
 new-unit : (box : Outbox) (unit at u version a : ℕ) → is_message u version a (new_message box unit at) ≡ true → unit ≡ u
