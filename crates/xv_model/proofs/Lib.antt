@@ -4,4 +4,5 @@ pub mod Histories
 pub mod Layouts
 pub mod Makes
 pub mod Steps
+pub mod Tips
 pub mod Unsent

@@ -1,0 +1,188 @@
+-- A settled unit has a version, and its tip covers every write done to it: kept by every step.
+use Rattle.std.proofs.Common.{◌≡◌, ◌≢◌, ◌≤◌, ◌<◌, ◌⊎◌, inl, inr, ℕ, zero, suc, ◌+◌, ◌-◌, Bool, true, false, not, ◌&&◌, ◌||◌, List, [], ◌∷◌, ◌++◌, length, get_or, set, map, None, refl, sym, ap, subst, ◌∙◌, arith, cond}
+use Rattle.std.specs.Prelude.{◌==◌, nat_lt, nat_le, is_some, if◌then◌else◌}
+use Rattle.std.proofs.lemmas.Bool.{cases_Bool, cases_eq, cases_lt, ltb-true, ltb-false, lt-ltb, eqb-true, ne_eqb, and_parts, and_right, and_left, or_parts, both_ways, cond-true}
+use Rattle.std.proofs.lemmas.List.{get_or-set_same, get_or-set_other}
+use Rattle.xv_model.specs.Job.{Job, Shape, UnitOp, IsGoodJob, units, unit_count, is_page, disk_of, block_of, unit_of_block, blocks, operation}
+use Rattle.xv_model.specs.Guest.{Ended, ended, wrote, writes_to}
+use Rattle.xv_model.specs.View.{View, Disk, Outbox, UnitHead, Hold, Phase, no_disk, disk, front, number, member, least, is_running, is_stunned, is_live, is_behind, is_inside, is_empty_set, ready_message, is_ready}
+use Rattle.xv_model.specs.Wait.{Event, Aim, Alone, Store, Join, Mirror, aim, next_operation, next_aim, fits, wait}
+use Rattle.xv_model.specs.Effect.{made, made_run, joined, front_gone, without_region, cursor_unit, no_pages, ended_as, guest_by, guest_done, begun, block_read, advanced, released, round_begun, page_sent_off, sent, delivered, applied_next, stunned, given_up, effect, fault_effect, Outcome}
+use Rattle.xv_model.specs.Step.{step, breaks}
+use Rattle.xv_model.specs.Outstanding.{Bag, outstanding, on_the_way, is_version, is_message}
+use Rattle.xv_model.specs.Invariant.{TipCovers, IsTip, EachVersionOnce, IsViewOf, is_settled, is_behind_block, waiting_at}
+use Rattle.xv_base.specs.declared.event.Phase.TheVariants.{Cancelled, Failed}
+use Rattle.xv_base.specs.declared.operation.Outcome.TheVariants.{Done, Faulted}
+use Rattle.xv_base.specs.declared.event.Event.TheVariants.{Guest, Begin, Read, Advance, Release, Round, Page, Send, Deliver, Apply, Ack, Credit, Stun, Switch, Cancel}
+use Rattle.xv_model.proofs.GoesOn.{aim-alone, aim-store, aim-mirror, MeansAlone, MeansStore, MeansMirror, GuestGoes, guest_goes, ReleaseGoes, release_goes, RoundGoes, round_goes, PageGoes, page_goes, ApplyGoes, apply_goes, StunGoes, stun_goes, running_is_live, live_is_running, queues_empty-queue, none-member, member-none, member-set_same, member-set_other, member-set_false}
+use Rattle.xv_model.proofs.Layouts.{SameCursors, cursors_kept, no_regions, same_settled, behind_after, CameBehind, settled_cases, settled_page, settled_block, page_below, page_from, behind_block, cursor_of}
+use Rattle.xv_model.proofs.Histories.{push, wrote-push_before, wrote-push_at}
+use Rattle.xv_model.proofs.Bags.{outstanding-sent-bag, outstanding-delivered-bag, outstanding-applied, ready-next, message-has-version, version-within, is_message-from, issued-unit}
+use Rattle.xv_model.proofs.Makes.{with_rest, MadeNone, MadeOne, made-other, made-one, run-other, run-one}
+use Rattle.xv_model.proofs.Steps.{step_cases}
+use Rattle.xv_model.proofs.Unsent.{FrontIs, front_is, run_cases}
+
+abbrev pub settled_of : Job → View → ℕ → Bool
+settled_of job v = is_settled job.shape v.disks v.dirty v.to_send
+
+abbrev pub TipsOf : Job → View → Type 0
+TipsOf job v = TipCovers (wrote job v.history) v.mark (outstanding v) v.outbox.issued v.hold.applied v.hold.recorded (settled_of job v)
+
+abbrev pub TipAt : View → ℕ → ℕ → Type 0
+TipAt v unit at = IsTip (outstanding v) v.outbox.issued v.hold.applied v.hold.recorded unit at
+
+-- a unit settled before and after whose tip is what it was, and that was not written to
+pub record TipKept (job : Job) (v v' : View) (unit : ℕ) : Type 0 where
+  pub settled : settled_of job v unit ≡ true
+  pub issued : number v.outbox.issued unit ≤ number v'.outbox.issued unit
+  pub tip : (at : ℕ) → TipAt v' unit at → TipAt v unit at
+  pub written : (i : ℕ) → i < v'.mark → wrote job v'.history unit i ≡ true → (i < v.mark) × (wrote job v.history unit i ≡ true)
+
+-- a unit whose tip is as late as can be
+pub record TipNew (v' : View) (unit : ℕ) : Type 0 where
+  pub some : 1 ≤ number v'.outbox.issued unit
+  pub at_mark : (at : ℕ) → TipAt v' unit at → v'.mark ≤ at
+
+tip_made : (job : Job) (v v' : View) (unit : ℕ) → TipsOf job v → TipKept job v v' unit ⊎ TipNew v' unit → 1 ≤ number v'.outbox.issued unit
+tip_made job v v' unit h (inl k) = let m = h.made unit k.settled in omega (arith, m, k.issued)
+tip_made job v v' unit h (inr n) = n.some
+
+tip_covers : (job : Job) (v v' : View) (unit at i : ℕ) → TipsOf job v → TipKept job v v' unit ⊎ TipNew v' unit → TipAt v' unit at → i < v'.mark → wrote job v'.history unit i ≡ true → i < at
+tip_covers job v v' unit at i h (inl k) t l w = let x = k.written i l w in h.covers unit at i k.settled (k.tip at t) x.0 x.1
+tip_covers job v v' unit at i h (inr n) t l w = let x = n.at_mark at t in omega (arith, x, l)
+
+pub tips_by : (job : Job) (v v' : View) → TipsOf job v → ((unit : ℕ) → settled_of job v' unit ≡ true → TipKept job v v' unit ⊎ TipNew v' unit) → TipsOf job v'
+tips_by job v v' h each = record {
+  made = λ unit s. tip_made job v v' unit h (each unit s);
+  covers = λ unit at i s t l w. tip_covers job v v' unit at i h (each unit s) t l w;
+}
+
+-- what one more entry in the history writes
+written_by : (job : Job) (h : List Ended) (e : Ended) (unit : ℕ) (live : Bool) (mark : ℕ) → (live ≡ true → mark ≡ length h) → mark ≤ length h → (live ≡ true → wrote job (push h e) unit (length h) ≡ false) →
+    (i : ℕ) → i < (if live then length h + 1 else mark) → wrote job (push h e) unit i ≡ true → (i < mark) × (wrote job h unit i ≡ true)
+written_by job h e unit true mark m l none i lt w = elim (cases_eq i (length h)) [
+  | inl same ↦ absurd (both_ways (wrote job (push h e) unit i) (ap (wrote job (push h e) unit) same ∙ none refl) w)
+  | inr other ↦
+      let before : i < length h = omega arith in
+      let m' = m refl in
+      (omega (arith, m', before), sym (wrote-push_before job h e unit i before) ∙ w)
+]
+written_by job h e unit false mark m l none i lt w = (lt, sym (wrote-push_before job h e unit i (omega (arith, lt, l))) ∙ w)
+
+pub written_none : (job : Job) (v : View) (e : Ended) (unit : ℕ) → IsViewOf job v → (is_live v.phase ≡ true → wrote job (push v.history e) unit (length v.history) ≡ false) →
+    (i : ℕ) → i < (if is_live v.phase then length v.history + 1 else v.mark) → wrote job (push v.history e) unit i ≡ true → (i < v.mark) × (wrote job v.history unit i ≡ true)
+written_none job v e unit inv none = written_by job v.history e unit (is_live v.phase) v.mark inv.history.marked inv.history.mark_within none
+
+pub writes_unit : (op : UnitOp) (unit : ℕ) → writes_to op unit ≡ true → (is_some op.write ≡ true) × (op.unit.0 ≡ unit)
+writes_unit op unit e = let p = and_parts (is_some op.write) (op.unit.0 == unit) e in (p.0, eqb-true op.unit.0 unit p.1)
+
+pub writes_other : (op : UnitOp) (unit : ℕ) → unit ≢ op.unit.0 → writes_to op unit ≡ false
+writes_other op unit n = and_right (is_some op.write) (op.unit.0 == unit) (ne_eqb op.unit.0 unit (λ e. n (sym e)))
+
+pub wrote_other : (job : Job) (h : List Ended) (e : Ended) (unit : ℕ) → unit ≢ (operation job e.guest.0 (ended h e.guest.0)).unit.0 → wrote job (push h e) unit (length h) ≡ false
+wrote_other job h e unit n = wrote-push_at job h e unit ∙ and_right _ (writes_to (operation job e.guest.0 (ended h e.guest.0)) unit) (writes_other (operation job e.guest.0 (ended h e.guest.0)) unit n)
+
+abbrev pub done_entry : ℕ → Ended
+done_entry g = record { guest = record { 0 = g }; outcome = Done }
+
+abbrev pub faulted_entry : ℕ → Ended
+faulted_entry g = record { guest = record { 0 = g }; outcome = Faulted }
+
+-- tips where no message is made, and where one is
+tip_none : (rest : Bag) (box new : Outbox) (applied recorded : List ℕ) (unit at : ℕ) → MadeNone rest box new unit → IsTip (with_rest rest new) new.issued applied recorded unit at → IsTip (with_rest rest box) box.issued applied recorded unit at
+tip_none rest box new applied recorded unit at m t = record {
+  outstanding = λ h. m.messages (number box.issued unit) at (subst (λ n. 0 < with_rest rest new (is_message unit n at)) m.issued (t.outstanding (rw m.issued h)));
+  all_applied = λ e. t.all_applied (e ∙ sym m.issued);
+}
+
+tip_one_by : (v : View) (unit at a version : ℕ) → version ≡ number v.outbox.issued unit + 1 → EachVersionOnce (outstanding v) v.outbox.issued v.hold.applied → (0 < outstanding v (is_message unit version a)) ⊎ ((version ≡ number v.outbox.issued unit + 1) × (a ≡ at)) → a ≡ at
+tip_one_by v unit at a version e once (inl old) = let within = version-within (outstanding v) v.outbox.issued v.hold.applied unit version once (message-has-version v unit version a old) in absurd (omega (arith, within, e))
+tip_one_by v unit at a version e once (inr new) = new.1
+
+tip_one : (v : View) (new : Outbox) (unit at a : ℕ) → MadeOne (on_the_way v) v.outbox new unit at → EachVersionOnce (outstanding v) v.outbox.issued v.hold.applied → IsTip (with_rest (on_the_way v) new) new.issued v.hold.applied v.hold.recorded unit a → a ≡ at
+tip_one v new unit at a m once t =
+    let below = once.in_order unit in
+    tip_one_by v unit at a (number new.issued unit) m.issued once (m.messages (number new.issued unit) a (t.outstanding (omega (arith, below, m.issued))))
+
+-- what leaves every cursor
+tips_cursors : (job : Job) (v : View) (ds : List Disk) → SameCursors ds v.disks → TipsOf job v → TipsOf job (record v { disks = ds })
+tips_cursors job v ds same h = subst (TipCovers (wrote job v.history) v.mark (outstanding v) v.outbox.issued v.hold.applied v.hold.recorded) (sym (same_settled job.shape ds v.disks v.dirty v.to_send same)) h
+
+-- an operation ended that wrote to no settled unit
+pub tips_ended : (job : Job) (v : View) (e : Ended) (dirty : List Bool) → IsViewOf job v → ((unit : ℕ) → is_settled job.shape v.disks dirty v.to_send unit ≡ true → settled_of job v unit ≡ true) →
+    ((unit : ℕ) → is_settled job.shape v.disks dirty v.to_send unit ≡ true → is_live v.phase ≡ true → wrote job (push v.history e) unit (length v.history) ≡ false) →
+    TipsOf job (record v { history = push v.history e; mark = if is_live v.phase then length v.history + 1 else v.mark; dirty = dirty })
+tips_ended job v e dirty inv before none = tips_by job v (record v { history = push v.history e; mark = if is_live v.phase then length v.history + 1 else v.mark; dirty = dirty }) inv.tips (λ unit s. inl (record {
+  settled = before unit s;
+  issued = omega arith;
+  tip = λ at t. t;
+  written = written_none job v e unit inv (none unit s);
+}))
+
+-- a guest's operation alone writes to no settled unit
+alone_by : (job : Job) (v : View) (op : UnitOp) (unit : ℕ) → MeansAlone job v op → is_running v.phase ≡ true → settled_of job v unit ≡ true → writes_to op unit ≡ true → ⊥
+alone_by job v op unit a r s w =
+    let x = writes_unit op unit w in
+    elim (settled_cases job.shape v.disks v.dirty v.to_send unit s) [
+      | inl page ↦ both_ways (is_page job.shape unit) (subst (λ u. is_page job.shape u ≡ false) x.1 (a.block r x.0)) page.0
+      | inr behind ↦
+          let b = behind_block job.shape v.disks unit behind in
+          let n = subst (λ u. is_behind (disk v (disk_of job.shape u)) (block_of job.shape u) ≡ false) x.1 (a.not_behind r x.0) in
+          both_ways (is_behind (disk v (disk_of job.shape unit)) (block_of job.shape unit)) n (lt-ltb (block_of job.shape unit) (cursor_of job.shape v.disks unit) b.behind)
+    ]
+
+pub alone_writes_none : (job : Job) (v : View) (g : ℕ) (unit : ℕ) → GuestGoes job v g → aim job v (next_operation job v g) ≡ Alone → settled_of job v unit ≡ true → is_live v.phase ≡ true → wrote job (push v.history (done_entry g)) unit (length v.history) ≡ false
+alone_writes_none job v g unit goes a s live =
+    let none : writes_to (next_operation job v g) unit ≡ false = elim (cases_Bool (writes_to (next_operation job v g) unit)) [
+      | inl w ↦ absurd (alone_by job v (next_operation job v g) unit (aim-alone job v (next_operation job v g) a) (live_is_running v.phase live goes.not_stunned) s w)
+      | inr n ↦ n
+    ] in
+    wrote-push_at job v.history (done_entry g) unit ∙ none
+
+-- a stored page is settled no more
+abbrev pub stored : View → ℕ → List Bool
+stored v page = if not (member v.to_send page) then set v.dirty page true else v.dirty
+
+stored_by : (b : Bool) (dirty : List Bool) (page unit : ℕ) → unit ≢ page → member (if b then set dirty page true else dirty) unit ≡ member dirty unit
+stored_by true dirty page unit n = member-set_other dirty page unit true n
+stored_by false dirty page unit n = refl
+
+stored_is : (to_send dirty : List Bool) (page : ℕ) → page < length dirty → member to_send page ≡ false → member (if not (member to_send page) then set dirty page true else dirty) page ≡ true
+stored_is to_send dirty page l e = rw e (member-set_same dirty page true l)
+
+store_settled : (job : Job) (v : View) (page unit : ℕ) → IsViewOf job v → is_page job.shape page ≡ true → is_settled job.shape v.disks (stored v page) v.to_send unit ≡ true → (unit ≢ page) × (settled_of job v unit ≡ true)
+store_settled job v page unit inv p s =
+    let below = page_below job.shape page p in
+    elim (settled_cases job.shape v.disks (stored v page) v.to_send unit s) [
+      | inl q ↦
+          let ne : unit ≢ page = λ e.
+              both_ways (member (stored v page) page) (subst (λ u. member (stored v page) u ≡ false) e q.1)
+              (stored_is v.to_send v.dirty page (omega (arith, below, inv.lists.dirty)) (subst (λ u. member v.to_send u ≡ false) e q.2)) in
+          let unit_below = page_below job.shape unit q.0 in
+          (ne, settled_page job.shape v.disks v.dirty v.to_send unit (omega (arith, unit_below)) q.0 (sym (stored_by (not (member v.to_send page)) v.dirty page unit ne) ∙ q.1) q.2)
+      | inr b ↦
+          let block = behind_block job.shape v.disks unit b in
+          ((λ e. both_ways (is_page job.shape page) (subst (λ u. is_page job.shape u ≡ false) e block.no_page) p), settled_block job.shape v.disks v.dirty v.to_send unit b)
+    ]
+
+-- a mirrored write's own unit has a new tip, and the others keep theirs
+pub tips_made : (job : Job) (v : View) (e : Ended) (ds : List Disk) (u : ℕ) → SameCursors ds v.disks → IsViewOf job v → is_live v.phase ≡ true → u < unit_count job → (operation job e.guest.0 (ended v.history e.guest.0)).unit.0 ≡ u →
+    TipsOf job (record v { history = push v.history e; mark = if is_live v.phase then length v.history + 1 else v.mark; disks = ds; outbox = made v.outbox u (length v.history + 1) })
+tips_made job v e ds u same inv live l writes =
+    let v' : View = record v { history = push v.history e; mark = if is_live v.phase then length v.history + 1 else v.mark; disks = ds; outbox = made v.outbox u (length v.history + 1) } in
+    let one = made-one (on_the_way v) v.outbox u (length v.history + 1) (omega (arith, l, inv.lists.issued)) (omega (arith, l, inv.lists.first)) in
+    let now : v'.mark ≡ length v.history + 1 = cond-true (is_live v.phase) (length v.history + 1) v.mark live in
+    tips_by job v v' inv.tips (λ unit s. elim (cases_eq unit u) [
+      | inl is ↦ inr (subst (TipNew v') (sym is) (record {
+          some = omega (arith, one.issued);
+          at_mark = λ at t. let tip = tip_one v v'.outbox u (length v.history + 1) at one inv.versions t in omega (arith, tip, now);
+        }))
+      | inr other ↦
+          let none = made-other (on_the_way v) v.outbox u (length v.history + 1) unit other in
+          inl (record {
+            settled = sym (ap (λ (f : ℕ → Bool). f unit) (same_settled job.shape ds v.disks v.dirty v.to_send same)) ∙ s;
+            issued = omega (arith, none.issued);
+            tip = λ at t. tip_none (on_the_way v) v.outbox v'.outbox v.hold.applied v.hold.recorded unit at none t;
+            written = written_none job v e unit inv (λ _. wrote_other job v.history e unit (λ x. other (x ∙ writes)));
+          })
+    ])
