@@ -5,13 +5,13 @@ use Rattle.std.proofs.lemmas.Bool.{cases_Bool, cases_eq, cases_lt, ltb-true, ltb
 use Rattle.std.proofs.lemmas.List.{get_or-set_same, get_or-set_other}
 use Rattle.xv_model.specs.Job.{Job, Shape, UnitOp, IsGoodJob, units, unit_count, is_page, disk_of, block_of, unit_of_block, blocks, operation}
 use Rattle.xv_model.specs.Guest.{Ended, ended, wrote, writes_to}
-use Rattle.xv_model.specs.View.{View, Disk, Outbox, UnitHead, Hold, Phase, no_disk, disk, front, number, member, least, is_running, is_stunned, is_live, is_behind, is_inside, is_empty_set, ready_message, is_ready}
+use Rattle.xv_model.specs.View.{View, Disk, Outbox, UnitHead, Hold, Waiting, is_switched, Phase, no_disk, disk, front, number, member, least, is_running, is_stunned, is_live, is_behind, is_inside, is_empty_set, ready_message, is_ready}
 use Rattle.xv_model.specs.Wait.{Event, Aim, Alone, Store, Join, Mirror, aim, next_operation, next_aim, fits, wait}
 use Rattle.xv_model.specs.Effect.{made, made_run, joined, front_gone, without_region, cursor_unit, no_pages, ended_as, guest_by, guest_done, begun, block_read, advanced, released, round_begun, page_sent_off, sent, delivered, applied_next, stunned, given_up, effect, fault_effect, Outcome}
 use Rattle.xv_model.specs.Step.{step, breaks}
 use Rattle.xv_model.specs.Outstanding.{Bag, outstanding, on_the_way, is_version, is_message}
 use Rattle.xv_model.specs.Invariant.{TipCovers, IsTip, EachVersionOnce, IsViewOf, is_settled, is_behind_block, waiting_at}
-use Rattle.xv_base.specs.declared.event.Phase.TheVariants.{Cancelled, Failed}
+use Rattle.xv_base.specs.declared.event.Phase.TheVariants.{Running, Stunned, Switched, Cancelled, Failed}
 use Rattle.xv_base.specs.declared.operation.Outcome.TheVariants.{Done, Faulted}
 use Rattle.xv_base.specs.declared.event.Event.TheVariants.{Guest, Begin, Read, Advance, Release, Round, Page, Send, Deliver, Apply, Ack, Credit, Stun, Switch, Cancel}
 use Rattle.xv_model.proofs.GoesOn.{aim-alone, aim-store, aim-mirror, MeansAlone, MeansStore, MeansMirror, GuestGoes, guest_goes, ReleaseGoes, release_goes, RoundGoes, round_goes, PageGoes, page_goes, ApplyGoes, apply_goes, StunGoes, stun_goes, running_is_live, live_is_running, queues_empty-queue, none-member, member-none, member-set_same, member-set_other, member-set_false}
@@ -20,7 +20,7 @@ use Rattle.xv_model.proofs.Histories.{push, wrote-push_before, wrote-push_at}
 use Rattle.xv_model.proofs.Bags.{outstanding-sent-bag, outstanding-delivered-bag, outstanding-applied, ready-next, message-has-version, version-within, is_message-from, issued-unit}
 use Rattle.xv_model.proofs.Makes.{with_rest, MadeNone, MadeOne, made-other, made-one, run-other, run-one}
 use Rattle.xv_model.proofs.Steps.{step_cases}
-use Rattle.xv_model.proofs.Unsent.{FrontIs, front_is, run_cases}
+use Rattle.xv_model.proofs.Unsent.{FrontIs, front_is, run_cases, run_fits}
 
 abbrev pub settled_of : Job → View → ℕ → Bool
 settled_of job v = is_settled job.shape v.disks v.dirty v.to_send
@@ -186,3 +186,163 @@ tips_made job v e ds u same inv live l writes =
             written = written_none job v e unit inv (λ _. wrote_other job v.history e unit (λ x. other (x ∙ writes)));
           })
     ])
+
+-- each effect
+tips_guest_by : (job : Job) (v : View) (g : ℕ) (a : Aim) → aim job v (next_operation job v g) ≡ a → IsGoodJob job → IsViewOf job v → GuestGoes job v g → TipsOf job (guest_by job v g (next_operation job v g) a)
+tips_guest_by job v g Alone e good inv goes = tips_ended job v (done_entry g) v.dirty inv (λ unit s. s) (λ unit s live. alone_writes_none job v g unit goes e s live)
+tips_guest_by job v g Store e good inv goes =
+    let page = (aim-store job v (next_operation job v g) e).page in
+    let u = (next_operation job v g).unit.0 in
+    tips_ended job v (done_entry g) (stored v u) inv (λ unit s. (store_settled job v u unit inv page s).1) (λ unit s live. wrote_other job v.history (done_entry g) unit (store_settled job v u unit inv page s).0)
+tips_guest_by job v g Join e good inv goes =
+    let op = next_operation job v g in
+    tips_cursors job v (set v.disks (disk_of job.shape op.unit.0) (joined (disk v (disk_of job.shape op.unit.0)) g op.unit.0)) (cursors_kept v.disks (disk_of job.shape op.unit.0) _ refl) inv.tips
+tips_guest_by job v g Mirror e good inv goes =
+    let m = aim-mirror job v (next_operation job v g) e in
+    tips_made job v (done_entry g) v.disks (next_operation job v g).unit.0 (λ i. refl) inv (running_is_live v.phase m.running) (good.legal g (ended v.history g) goes.more).unit_is refl
+
+pub tips-guest : (job : Job) (v : View) (g : ℕ) → IsGoodJob job → IsViewOf job v → GuestGoes job v g → TipsOf job (guest_done job v g)
+tips-guest job v g good inv goes = tips_guest_by job v g (next_aim job v g) refl good inv goes
+
+pub tips-begun : (job : Job) (v : View) (d : ℕ) → IsViewOf job v → TipsOf job (begun job v d)
+tips-begun job v d inv = tips_cursors job v (begun job v d).disks (cursors_kept v.disks d _ refl) inv.tips
+
+pub tips-block_read : (job : Job) (v : View) (d : ℕ) → IsViewOf job v → TipsOf job (block_read v d)
+tips-block_read job v d inv = tips_cursors job v (block_read v d).disks (cursors_kept v.disks d _ refl) inv.tips
+
+pub tips-given_up : (job : Job) (v : View) (phase : Phase) → IsViewOf job v → TipsOf job (given_up v phase)
+tips-given_up job v phase inv = tips_cursors job v (map without_region v.disks) (no_regions v.disks) inv.tips
+
+-- a round begins: the dirty pages are those to be sent
+sets_by : (a b c d : Bool) → a ≡ false → d ≡ false → not (a || b) ≡ not (b || d)
+sets_by true b c d e f = absurd (cc)
+sets_by false true c d e f = refl
+sets_by false false c true e f = absurd (cc)
+sets_by false false c false e f = refl
+
+same_round : (s : Shape) (ds : List Disk) (dirty to_send : List Bool) → is_empty_set to_send ≡ true → is_settled s ds (no_pages dirty) dirty ≡ is_settled s ds dirty to_send
+same_round s ds dirty to_send e = λ i u.
+    ap (λ b. nat_lt u (units s) && (if is_page s u then b else is_behind (get_or ds (disk_of s u) no_disk) (block_of s u)))
+    (sets_by (member (no_pages dirty) u) (member dirty u) true (member to_send u) (member-none (length dirty) u) (none-member to_send u e)) i
+
+pub tips-round : (job : Job) (v : View) → RoundGoes job v → IsViewOf job v → TipsOf job (round_begun v)
+tips-round job v goes inv = subst (TipCovers (wrote job v.history) v.mark (outstanding v) v.outbox.issued v.hold.applied v.hold.recorded) (sym (same_round job.shape v.disks v.dirty v.to_send goes.none_to_send)) inv.tips
+
+pub tips-stunned : (job : Job) (v : View) → StunGoes job v → IsViewOf job v → TipsOf job (stunned v)
+tips-stunned job v goes inv = subst (TipCovers (wrote job v.history) v.mark (outstanding v) v.outbox.issued v.hold.applied v.hold.recorded) (sym (same_round job.shape v.disks v.dirty v.to_send goes.none_to_send)) inv.tips
+
+pub tips-sent : (job : Job) (v : View) (s : ℕ) → s < job.config.streams → IsViewOf job v → TipsOf job (sent job v s)
+tips-sent job v s l inv = subst (λ bag. TipCovers (wrote job v.history) v.mark bag v.outbox.issued v.hold.applied v.hold.recorded (settled_of job v)) (sym (outstanding-sent-bag job v s (omega (arith, l, inv.lists.streams)))) inv.tips
+
+pub tips-delivered : (job : Job) (v : View) (s : ℕ) → s < job.config.streams → IsViewOf job v → TipsOf job (delivered v s)
+tips-delivered job v s l inv = subst (λ bag. TipCovers (wrote job v.history) v.mark bag v.outbox.issued v.hold.applied v.hold.recorded (settled_of job v)) (sym (outstanding-delivered-bag v s (omega (arith, l, inv.lists.streams)))) inv.tips
+
+-- a page is sent off: it alone may be settled anew
+page_settled : (job : Job) (v : View) (unit : ℕ) → settled_of job (page_sent_off v) unit ≡ true → unit ≢ least v.to_send → settled_of job v unit ≡ true
+page_settled job v unit s n = elim (settled_cases job.shape v.disks v.dirty (set v.to_send (least v.to_send) false) unit s) [
+  | inl q ↦
+      let below = page_below job.shape unit q.0 in
+      settled_page job.shape v.disks v.dirty v.to_send unit (omega (arith, below)) q.0 q.1 (sym (member-set_other v.to_send (least v.to_send) unit false n) ∙ q.2)
+  | inr b ↦ settled_block job.shape v.disks v.dirty v.to_send unit b
+]
+
+pub tips-page : (job : Job) (v : View) → PageGoes job v → IsViewOf job v → TipsOf job (page_sent_off v)
+tips-page job v goes inv =
+    let u = least v.to_send in
+    let below : u < unit_count job = omega (arith, goes.in_range, inv.lists.to_send) in
+    let one = made-one (on_the_way v) v.outbox u (length v.history) (omega (arith, below, inv.lists.issued)) (omega (arith, below, inv.lists.first)) in
+    let now = inv.history.marked goes.live in
+    tips_by job v (page_sent_off v) inv.tips (λ unit s. elim (cases_eq unit u) [
+      | inl is ↦ inr (subst (TipNew (page_sent_off v)) (sym is) (record {
+          some = omega (arith, one.issued);
+          at_mark = λ at t. let tip = tip_one v (page_sent_off v).outbox u (length v.history) at one inv.versions t in omega (arith, tip, now);
+        }))
+      | inr other ↦
+          let none = made-other (on_the_way v) v.outbox u (length v.history) unit other in
+          inl (record {
+            settled = page_settled job v unit s other;
+            issued = omega (arith, none.issued);
+            tip = λ at t. tip_none (on_the_way v) v.outbox (page_sent_off v).outbox v.hold.applied v.hold.recorded unit at none t;
+            written = λ i l w. (l, w);
+          })
+    ])
+
+-- a region is sent off: its units are settled anew
+advanced_settled : (job : Job) (v : View) (d unit : ℕ) → d < length v.disks → settled_of job (advanced job v d) unit ≡ true → (unit < cursor_unit job v d) ⊎ (cursor_unit job v d + (disk v d).region ≤ unit) → settled_of job v unit ≡ true
+advanced_settled job v d unit l s out = elim (settled_cases job.shape (advanced job v d).disks v.dirty v.to_send unit s) [
+  | inl q ↦
+      let below = page_below job.shape unit q.0 in
+      settled_page job.shape v.disks v.dirty v.to_send unit (omega (arith, below)) q.0 q.1 q.2
+  | inr b ↦ elim (behind_after job.shape v.disks d (record (disk v d) { cursor = (disk v d).cursor + (disk v d).region; region = 0; got = 0 }) unit l b) [
+    | inl old ↦ settled_block job.shape v.disks v.dirty v.to_send unit old
+    | inr came ↦ absurd (elim out [ inl x ↦ omega (arith, x, came.within, came.unit) | inr x ↦ omega (arith, x, came.within, came.unit) ])
+  ]
+]
+
+pub tips-advanced : (job : Job) (v : View) (d : ℕ) → d < length job.shape.disks → is_live v.phase ≡ true → IsViewOf job v → TipsOf job (advanced job v d)
+tips-advanced job v d l live inv =
+    let in_view : d < length v.disks = omega (arith, l, inv.lists.disks) in
+    let now = inv.history.marked live in
+    tips_by job v (advanced job v d) inv.tips (λ unit s. elim (run_cases (cursor_unit job v d) (disk v d).region unit) [
+      | inl out ↦
+          let none = run-other (on_the_way v) v.outbox (cursor_unit job v d) (length v.history) (disk v d).region unit out in
+          inl (record {
+            settled = advanced_settled job v d unit in_view s out;
+            issued = omega (arith, none.issued);
+            tip = λ at t. tip_none (on_the_way v) v.outbox (advanced job v d).outbox v.hold.applied v.hold.recorded unit at none t;
+            written = λ i l w. (l, w);
+          })
+      | inr run ↦
+          let fits = run_fits job v d l inv (omega (arith, run.0, run.1)) in
+          let one = run-one (on_the_way v) v.outbox (cursor_unit job v d) (length v.history) (disk v d).region unit run.0 run.1 (omega (arith, fits, inv.lists.issued)) (omega (arith, fits, inv.lists.first)) in
+          inr (record {
+            some = omega (arith, one.issued);
+            at_mark = λ at t. let tip = tip_one v (advanced job v d).outbox unit (length v.history) at one inv.versions t in omega (arith, tip, now);
+          })
+    ])
+
+-- a write at the front of a queue is done
+abbrev released_by : View → ℕ → Bool → View
+released_by v d running = record v {
+  history = v.history ++ record { guest = (front (disk v d)).guest; outcome = Done } ∷ [];
+  mark = if is_live v.phase then length v.history + 1 else v.mark;
+  disks = set v.disks d (front_gone (disk v d));
+  outbox = if running then made v.outbox (front (disk v d)).unit.0 (length v.history + 1) else v.outbox;
+}
+
+-- a queue waits in no view that is stunned
+live_by : (p : Phase) → is_live p ≡ true → is_running p ≡ false → (is_stunned p || is_switched p) ≡ true
+live_by Running e f = absurd (cc)
+live_by Stunned e f = refl
+live_by Switched e f = absurd (cc)
+live_by Cancelled e f = absurd (cc)
+live_by Failed e f = absurd (cc)
+
+pub released_not_stunned : (job : Job) (v : View) (d : ℕ) → ReleaseGoes job v d → IsViewOf job v → is_live v.phase ≡ true → is_running v.phase ≡ false → ⊥
+released_not_stunned job v d goes inv live not_running =
+    let none = queues_empty-queue v.disks d (inv.quiet.no_queue (live_by v.phase live not_running)) in
+    let zero_long : length (disk v d).queue ≡ 0 = ap (λ (ws : List Waiting). length ws) none in
+    omega (arith, zero_long, goes.some_queue)
+
+tips_released_by : (job : Job) (v : View) (d : ℕ) (running : Bool) → is_running v.phase ≡ running → ReleaseGoes job v d → IsViewOf job v → TipsOf job (released_by v d running)
+tips_released_by job v d true r goes inv =
+    let at_front = front_is job v d inv goes in
+    let writes = writes_unit (next_operation job v (front (disk v d)).guest.0) (front (disk v d)).unit.0 (inv.queues.to_write d 0 goes.some_queue) in
+    tips_made job v (done_entry (front (disk v d)).guest.0) (set v.disks d (front_gone (disk v d))) (front (disk v d)).unit.0 (cursors_kept v.disks d _ refl) inv (running_is_live v.phase r) at_front.in_range writes.1
+tips_released_by job v d false r goes inv =
+    tips_cursors job (record v { history = push v.history (done_entry (front (disk v d)).guest.0); mark = if is_live v.phase then length v.history + 1 else v.mark }) (set v.disks d (front_gone (disk v d))) (cursors_kept v.disks d _ refl)
+    (tips_ended job v (done_entry (front (disk v d)).guest.0) v.dirty inv (λ unit s. s) (λ unit s live. absurd (released_not_stunned job v d goes inv live r)))
+
+pub tips-released : (job : Job) (v : View) (d : ℕ) → ReleaseGoes job v d → IsViewOf job v → TipsOf job (released v d)
+tips-released job v d goes inv = tips_released_by job v d (is_running v.phase) refl goes inv
+
+-- an operation that failed writes nothing
+faulted_wrote : (job : Job) (h : List Ended) (g unit : ℕ) → wrote job (push h (faulted_entry g)) unit (length h) ≡ false
+faulted_wrote job h g unit = wrote-push_at job h (faulted_entry g) unit
+
+pub tips-ended_as : (job : Job) (v : View) (g : ℕ) → IsViewOf job v → TipsOf job (ended_as v g Faulted)
+tips-ended_as job v g inv = tips_ended job v (faulted_entry g) v.dirty inv (λ unit s. s) (λ unit s live. faulted_wrote job v.history g unit)
+
+pub tips-release_fault : (job : Job) (v : View) (d : ℕ) → IsViewOf job v → TipsOf job (fault_effect v (Release d))
+tips-release_fault job v d inv =
+    tips_cursors job (ended_as v (front (disk v d)).guest.0 Faulted) (set v.disks d (front_gone (disk v d))) (cursors_kept v.disks d _ refl) (tips-ended_as job v (front (disk v d)).guest.0 inv)

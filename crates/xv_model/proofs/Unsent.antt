@@ -3,7 +3,7 @@ use Rattle.std.proofs.Common.{◌≡◌, ◌≤◌, ◌<◌, ◌⊎◌, inl, inr
 use Rattle.std.specs.Prelude.{nat_lt, nat_le, if◌then◌else◌}
 use Rattle.std.proofs.lemmas.Bool.{cases_eq, cases_lt, ltb-true, lt-ltb, le-leb, both_ways}
 use Rattle.std.proofs.lemmas.List.{get_or-set_other}
-use Rattle.xv_model.specs.Job.{Job, Shape, UnitOp, IsGoodJob, units, is_page, disk_of, block_of}
+use Rattle.xv_model.specs.Job.{Job, Shape, UnitOp, IsGoodJob, units, unit_count, is_page, disk_of, block_of}
 use Rattle.xv_model.specs.View.{View, Disk, Outbox, Phase, no_disk, disk, front, number, least, is_running, is_behind}
 use Rattle.xv_model.specs.Wait.{Event, Aim, Alone, Store, Join, Mirror, aim, next_operation, next_aim, fits, wait}
 use Rattle.xv_model.specs.Effect.{made, joined, without_region, cursor_unit, ended_as, guest_by, guest_done, begun, block_read, advanced, released, page_sent_off, given_up, effect, fault_effect, Outcome}
@@ -13,7 +13,7 @@ use Rattle.xv_base.specs.declared.event.Phase.TheVariants.{Cancelled, Failed}
 use Rattle.xv_base.specs.declared.operation.Outcome.TheVariants.{Faulted}
 use Rattle.xv_base.specs.declared.event.Event.TheVariants.{Guest, Begin, Read, Advance, Release, Round, Page, Send, Deliver, Apply, Ack, Credit, Stun, Switch, Cancel}
 use Rattle.xv_model.proofs.GoesOn.{aim-mirror, PageGoes, page_goes, ReleaseGoes, release_goes}
-use Rattle.xv_model.proofs.Layouts.{SameCursors, cursors_kept, no_regions, same_unsent, unsent_before, behind_now, page_from, behind_block, cursor_of}
+use Rattle.xv_model.proofs.Layouts.{is_block_after, SameCursors, cursors_kept, no_regions, same_unsent, unsent_before, behind_now, page_from, behind_block, cursor_of}
 use Rattle.xv_model.proofs.Bags.{issued-run-other}
 use Rattle.xv_model.proofs.Steps.{step_cases}
 
@@ -118,6 +118,14 @@ run_is job v d u inv l a b =
       behind = subst (λ w. is_behind_block job.shape (advanced job v d).disks w ≡ true) same now.0;
       unsent = subst (λ w. is_unsent_block job.shape v.disks w ≡ true) same now.1;
     }
+
+-- and their units are in range
+pub run_fits : (job : Job) (v : View) (d : ℕ) → d < length job.shape.disks → IsViewOf job v → 0 < (disk v d).region → cursor_unit job v d + (disk v d).region ≤ unit_count job
+run_fits job v d l inv some =
+    let in_view : d < length v.disks = omega (arith, l, inv.lists.disks) in
+    let fits = inv.regions.cursor_fits d in_view in
+    let last = is_block_after job.shape d (disk v d).cursor ((disk v d).region - 1) l (omega (arith, fits, some)) in
+    omega (arith, last.in_range, some)
 
 pub unsent-advanced : (job : Job) (v : View) (d : ℕ) → d < length job.shape.disks → IsViewOf job v → UnsentOf job (advanced job v d)
 unsent-advanced job v d l inv =
