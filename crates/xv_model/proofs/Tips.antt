@@ -1,26 +1,26 @@
 -- A settled unit has a version, and its tip covers every write done to it: kept by every step.
-use Rattle.std.proofs.Common.{◌≡◌, ◌≢◌, ◌≤◌, ◌<◌, ◌⊎◌, inl, inr, ℕ, zero, suc, ◌+◌, ◌-◌, Bool, true, false, not, ◌&&◌, ◌||◌, List, [], ◌∷◌, ◌++◌, length, get_or, set, map, None, refl, sym, ap, subst, ◌∙◌, arith, cond}
-use Rattle.std.specs.Prelude.{◌==◌, nat_lt, nat_le, is_some, if◌then◌else◌}
-use Rattle.std.proofs.lemmas.Bool.{cases_Bool, cases_eq, cases_lt, ltb-true, ltb-false, lt-ltb, eqb-true, ne_eqb, and_parts, and_right, and_left, or_parts, both_ways, cond-true}
+use Rattle.std.proofs.Common.{◌≡◌, ◌≢◌, ◌≤◌, ◌<◌, ◌⊎◌, inl, inr, ℕ, ◌+◌, Bool, true, false, not, ◌&&◌, ◌||◌, List, [], ◌∷◌, ◌++◌, length, get_or, set, map, None, refl, sym, ap, subst, ◌∙◌, arith}
+use Rattle.std.specs.Prelude.{◌==◌, nat_lt, is_some, if◌then◌else◌}
+use Rattle.std.proofs.lemmas.Bool.{cases_Bool, cases_eq, cases_lt, ltb-true, lt-ltb, eqb-true, ne_eqb, and_parts, and_right, both_ways, cond-true}
 use Rattle.std.proofs.lemmas.List.{get_or-set_same, get_or-set_other}
-use Rattle.xv_model.specs.Job.{Job, Shape, UnitOp, IsGoodJob, units, unit_count, is_page, disk_of, block_of, unit_of_block, blocks, operation}
+use Rattle.xv_model.specs.Job.{Job, Shape, UnitOp, IsGoodJob, units, unit_count, is_page, disk_of, block_of, operation}
 use Rattle.xv_model.specs.Guest.{Ended, ended, wrote, writes_to}
-use Rattle.xv_model.specs.View.{View, Disk, Outbox, UnitHead, Hold, Waiting, is_switched, Phase, no_disk, disk, front, number, member, least, is_running, is_stunned, is_live, is_behind, is_inside, is_empty_set, ready_message, is_ready}
+use Rattle.xv_model.specs.View.{View, Disk, Outbox, UnitHead, Waiting, is_switched, Phase, no_disk, disk, front, number, member, least, is_running, is_stunned, is_live, is_behind, is_empty_set, ready_message}
 use Rattle.xv_model.specs.Wait.{Event, Aim, Alone, Store, Join, Mirror, aim, next_operation, next_aim, fits, wait}
-use Rattle.xv_model.specs.Effect.{made, made_run, joined, front_gone, without_region, cursor_unit, no_pages, ended_as, guest_by, guest_done, begun, block_read, advanced, released, round_begun, page_sent_off, sent, delivered, applied_next, stunned, given_up, effect, fault_effect, Outcome}
-use Rattle.xv_model.specs.Step.{step, breaks}
-use Rattle.xv_model.specs.Outstanding.{Bag, outstanding, on_the_way, is_version, is_message}
-use Rattle.xv_model.specs.Invariant.{TipCovers, IsTip, EachVersionOnce, IsViewOf, is_settled, is_behind_block, waiting_at}
+use Rattle.xv_model.specs.Effect.{made, joined, front_gone, without_region, cursor_unit, no_pages, ended_as, guest_by, guest_done, begun, block_read, advanced, released, round_begun, page_sent_off, sent, delivered, applied_next, stunned, given_up, effect, fault_effect}
+use Rattle.xv_model.specs.Step.{step}
+use Rattle.xv_model.specs.Outstanding.{Bag, outstanding, on_the_way, is_message}
+use Rattle.xv_model.specs.Invariant.{TipCovers, IsTip, EachVersionOnce, IsViewOf, is_settled}
 use Rattle.xv_base.specs.declared.event.Phase.TheVariants.{Running, Stunned, Switched, Cancelled, Failed}
 use Rattle.xv_base.specs.declared.operation.Outcome.TheVariants.{Done, Faulted}
 use Rattle.xv_base.specs.declared.event.Event.TheVariants.{Guest, Begin, Read, Advance, Release, Round, Page, Send, Deliver, Apply, Ack, Credit, Stun, Switch, Cancel}
-use Rattle.xv_model.proofs.GoesOn.{aim-alone, aim-store, aim-mirror, MeansAlone, MeansStore, MeansMirror, GuestGoes, guest_goes, ReleaseGoes, release_goes, RoundGoes, round_goes, PageGoes, page_goes, ApplyGoes, apply_goes, StunGoes, stun_goes, running_is_live, live_is_running, queues_empty-queue, none-member, member-none, member-set_same, member-set_other, member-set_false}
-use Rattle.xv_model.proofs.Layouts.{SameCursors, cursors_kept, no_regions, same_settled, behind_after, CameBehind, settled_cases, settled_page, settled_block, page_below, page_from, behind_block, cursor_of}
+use Rattle.xv_model.proofs.GoesOn.{aim-alone, aim-store, aim-mirror, MeansAlone, GuestGoes, guest_goes, advance_goes, ReleaseGoes, release_goes, RoundGoes, round_goes, PageGoes, page_goes, ApplyGoes, apply_goes, StunGoes, stun_goes, running_is_live, live_is_running, queues_empty-queue, none-member, member-none, member-set_same, member-set_other}
+use Rattle.xv_model.proofs.Layouts.{SameCursors, cursors_kept, no_regions, same_settled, behind_after, settled_cases, settled_page, settled_block, page_below, behind_block, cursor_of}
 use Rattle.xv_model.proofs.Histories.{push, wrote-push_before, wrote-push_at}
 use Rattle.xv_model.proofs.Bags.{outstanding-sent-bag, outstanding-delivered-bag, outstanding-applied, ready-next, message-has-version, version-within, is_message-from, issued-unit}
 use Rattle.xv_model.proofs.Makes.{with_rest, MadeNone, MadeOne, made-other, made-one, run-other, run-one}
 use Rattle.xv_model.proofs.Steps.{step_cases}
-use Rattle.xv_model.proofs.Unsent.{FrontIs, front_is, run_cases, run_fits}
+use Rattle.xv_model.proofs.Unsent.{front_is, run_cases, run_fits}
 
 abbrev pub settled_of : Job → View → ℕ → Bool
 settled_of job v = is_settled job.shape v.disks v.dirty v.to_send
@@ -156,8 +156,8 @@ store_settled job v page unit inv p s =
     elim (settled_cases job.shape v.disks (stored v page) v.to_send unit s) [
       | inl q ↦
           let ne : unit ≢ page = λ e.
-              both_ways (member (stored v page) page) (subst (λ u. member (stored v page) u ≡ false) e q.1)
-              (stored_is v.to_send v.dirty page (omega (arith, below, inv.lists.dirty)) (subst (λ u. member v.to_send u ≡ false) e q.2)) in
+          both_ways (member (stored v page) page) (subst (λ u. member (stored v page) u ≡ false) e q.1)
+          (stored_is v.to_send v.dirty page (omega (arith, below, inv.lists.dirty)) (subst (λ u. member v.to_send u ≡ false) e q.2)) in
           let unit_below = page_below job.shape unit q.0 in
           (ne, settled_page job.shape v.disks v.dirty v.to_send unit (omega (arith, unit_below)) q.0 (sym (stored_by (not (member v.to_send page)) v.dirty page unit ne) ∙ q.1) q.2)
       | inr b ↦
@@ -174,9 +174,9 @@ tips_made job v e ds u same inv live l writes =
     let now : v'.mark ≡ length v.history + 1 = cond-true (is_live v.phase) (length v.history + 1) v.mark live in
     tips_by job v v' inv.tips (λ unit s. elim (cases_eq unit u) [
       | inl is ↦ inr (subst (TipNew v') (sym is) (record {
-          some = omega (arith, one.issued);
-          at_mark = λ at t. let tip = tip_one v v'.outbox u (length v.history + 1) at one inv.versions t in omega (arith, tip, now);
-        }))
+        some = omega (arith, one.issued);
+        at_mark = λ at t. let tip = tip_one v v'.outbox u (length v.history + 1) at one inv.versions t in omega (arith, tip, now);
+      }))
       | inr other ↦
           let none = made-other (on_the_way v) v.outbox u (length v.history + 1) unit other in
           inl (record {
@@ -254,9 +254,9 @@ tips-page job v goes inv =
     let now = inv.history.marked goes.live in
     tips_by job v (page_sent_off v) inv.tips (λ unit s. elim (cases_eq unit u) [
       | inl is ↦ inr (subst (TipNew (page_sent_off v)) (sym is) (record {
-          some = omega (arith, one.issued);
-          at_mark = λ at t. let tip = tip_one v (page_sent_off v).outbox u (length v.history) at one inv.versions t in omega (arith, tip, now);
-        }))
+        some = omega (arith, one.issued);
+        at_mark = λ at t. let tip = tip_one v (page_sent_off v).outbox u (length v.history) at one inv.versions t in omega (arith, tip, now);
+      }))
       | inr other ↦
           let none = made-other (on_the_way v) v.outbox u (length v.history) unit other in
           inl (record {
@@ -346,3 +346,111 @@ tips-ended_as job v g inv = tips_ended job v (faulted_entry g) v.dirty inv (λ u
 pub tips-release_fault : (job : Job) (v : View) (d : ℕ) → IsViewOf job v → TipsOf job (fault_effect v (Release d))
 tips-release_fault job v d inv =
     tips_cursors job (ended_as v (front (disk v d)).guest.0 Faulted) (set v.disks d (front_gone (disk v d))) (cursors_kept v.disks d _ refl) (tips-ended_as job v (front (disk v d)).guest.0 inv)
+
+-- the next message is written: what it was, and what is then applied and recorded
+pub record AppliedIs (job : Job) (v : View) (u version at : ℕ) : Type 0 where
+  pub next : version ≡ number v.hold.applied u + 1
+  pub there : 0 < outstanding v (is_message u version at)
+  pub within : version ≤ number v.outbox.issued u
+  pub in_range : u < unit_count job
+  pub applied : number (applied_next v).hold.applied u ≡ version
+  pub recorded : number (applied_next v).hold.recorded u ≡ at
+  pub other_applied : (unit : ℕ) → unit ≢ u → number (applied_next v).hold.applied unit ≡ number v.hold.applied unit
+  pub other_recorded : (unit : ℕ) → unit ≢ u → number (applied_next v).hold.recorded unit ≡ number v.hold.recorded unit
+  pub fewer : (test : UnitHead → Bool) → 0 < outstanding (applied_next v) test → 0 < outstanding v test
+
+fewer_by : (b : Bool) (before after : ℕ) → before ≡ (if b then 1 else 0) + after → 0 < after → 0 < before
+fewer_by b before after e h = omega (arith, e, h)
+
+there_by : (b : Bool) (before after : ℕ) → before ≡ (if b then 1 else 0) + after → b ≡ true → 0 < before
+there_by true before after e t = omega (arith, e)
+there_by false before after e t = absurd (cc)
+
+pub applied_is : (job : Job) (v : View) → ApplyGoes job v → IsViewOf job v → AppliedIs job v (ready_message v.hold).unit.0 (ready_message v.hold).version (ready_message v.hold).at
+applied_is job v goes inv =
+    let m : UnitHead = ready_message v.hold in
+    let test = is_message m.unit.0 m.version m.at in
+    let there : 0 < outstanding v test = there_by (test m) (outstanding v test) (outstanding (applied_next v) test) (outstanding-applied v goes.ready test) (is_message-from m.unit.0 m.version m.at m refl refl refl) in
+    let next = ready-next v.hold goes.ready in
+    let within = version-within (outstanding v) v.outbox.issued v.hold.applied m.unit.0 m.version inv.versions (message-has-version v m.unit.0 m.version m.at there) in
+    let in_issued = issued-unit v.outbox.issued m.unit.0 (omega (arith, next, within)) in
+    record {
+      next = next;
+      there = there;
+      within = within;
+      in_range = omega (arith, in_issued, inv.lists.issued);
+      applied = get_or-set_same v.hold.applied m.unit.0 m.version 0 (omega (arith, in_issued, inv.lists.issued, inv.lists.applied));
+      recorded = get_or-set_same v.hold.recorded m.unit.0 m.at 0 (omega (arith, in_issued, inv.lists.issued, inv.lists.recorded));
+      other_applied = λ unit n. get_or-set_other v.hold.applied m.unit.0 unit m.version 0 n;
+      other_recorded = λ unit n. get_or-set_other v.hold.recorded m.unit.0 unit m.at 0 n;
+      fewer = λ t h. fewer_by (t m) (outstanding v t) (outstanding (applied_next v) t) (outstanding-applied v goes.ready t) h;
+    }
+
+tip_applied-other : (job : Job) (v : View) (u version at' unit at : ℕ) → AppliedIs job v u version at' → unit ≢ u → TipAt (applied_next v) unit at → TipAt v unit at
+tip_applied-other job v u version at' unit at a n t = record {
+  outstanding = λ h. a.fewer (is_message unit (number v.outbox.issued unit) at) (t.outstanding (omega (arith, h, a.other_applied unit n)));
+  all_applied = λ e. t.all_applied (a.other_applied unit n ∙ e) ∙ a.other_recorded unit n;
+}
+
+tip_applied-own : (job : Job) (v : View) (u version at' at : ℕ) → AppliedIs job v u version at' → TipAt (applied_next v) u at → TipAt v u at
+tip_applied-own job v u version at' at a t = record {
+  outstanding = λ h. elim (cases_lt version (number v.outbox.issued u)) [
+    | inl lt ↦ a.fewer (is_message u (number v.outbox.issued u) at) (t.outstanding (omega (arith, lt, a.applied)))
+    | inr ge ↦
+        let last : version ≡ number v.outbox.issued u = omega (arith, ge, a.within) in
+        let here : at' ≡ at = sym (t.all_applied (a.applied ∙ last) ∙ a.recorded) in
+        subst (λ k. 0 < outstanding v (is_message u k at)) last (subst (λ k. 0 < outstanding v (is_message u version k)) here a.there)
+  ];
+  all_applied = λ e. absurd (omega (arith, e, a.next, a.within));
+}
+
+pub tips-applied : (job : Job) (v : View) → ApplyGoes job v → IsViewOf job v → TipsOf job (applied_next v)
+tips-applied job v goes inv =
+    let a = applied_is job v goes inv in
+    let u = (ready_message v.hold).unit.0 in
+    tips_by job v (applied_next v) inv.tips (λ unit s. inl (record {
+      settled = s;
+      issued = omega arith;
+      tip = λ at t. elim (cases_eq unit u) [
+        | inl is ↦ subst (λ w. TipAt v w at) (sym is) (tip_applied-own job v u (ready_message v.hold).version (ready_message v.hold).at at a (subst (λ w. TipAt (applied_next v) w at) is t))
+        | inr n ↦ tip_applied-other job v u (ready_message v.hold).version (ready_message v.hold).at unit at a n t
+      ];
+      written = λ i l w. (l, w);
+    }))
+
+tips_effect : (job : Job) (v : View) (e : Event) (flag : Bool) → IsGoodJob job → fits job e ≡ true → IsViewOf job v → wait job v e flag ≡ None → TipsOf job (effect job v e)
+tips_effect job v (Guest g) flag good f inv w = tips-guest job v g.0 good inv (guest_goes job v g.0 flag w)
+tips_effect job v (Begin d) flag good f inv w = tips-begun job v d inv
+tips_effect job v (Read d) flag good f inv w = tips-block_read job v d inv
+tips_effect job v (Advance d) flag good f inv w = tips-advanced job v d (ltb-true d (length job.shape.disks) f) (running_is_live v.phase (advance_goes job v d flag w).running) inv
+tips_effect job v (Release d) flag good f inv w = tips-released job v d (release_goes job v d flag w) inv
+tips_effect job v Round flag good f inv w = tips-round job v (round_goes job v flag w) inv
+tips_effect job v Page flag good f inv w = tips-page job v (page_goes job v flag w) inv
+tips_effect job v (Send s) flag good f inv w = tips-sent job v s (ltb-true s job.config.streams f) inv
+tips_effect job v (Deliver s) flag good f inv w = tips-delivered job v s (ltb-true s job.config.streams f) inv
+tips_effect job v Apply flag good f inv w = tips-applied job v (apply_goes job v flag w) inv
+tips_effect job v Ack flag good f inv w = inv.tips
+tips_effect job v Credit flag good f inv w = inv.tips
+tips_effect job v Stun flag good f inv w = tips-stunned job v (stun_goes job v flag w) inv
+tips_effect job v Switch flag good f inv w = inv.tips
+tips_effect job v Cancel flag good f inv w = tips-given_up job v Cancelled inv
+
+tips_fault : (job : Job) (v : View) (e : Event) → IsViewOf job v → TipsOf job (fault_effect v e)
+tips_fault job v (Guest g) inv = tips-ended_as job v g.0 inv
+tips_fault job v (Release d) inv = tips-release_fault job v d inv
+tips_fault job v (Begin d) inv = tips-given_up job v Failed inv
+tips_fault job v (Read d) inv = tips-given_up job v Failed inv
+tips_fault job v (Advance d) inv = tips-given_up job v Failed inv
+tips_fault job v Round inv = tips-given_up job v Failed inv
+tips_fault job v Page inv = tips-given_up job v Failed inv
+tips_fault job v (Send s) inv = tips-given_up job v Failed inv
+tips_fault job v (Deliver s) inv = tips-given_up job v Failed inv
+tips_fault job v Apply inv = tips-given_up job v Failed inv
+tips_fault job v Ack inv = tips-given_up job v Failed inv
+tips_fault job v Credit inv = tips-given_up job v Failed inv
+tips_fault job v Stun inv = tips-given_up job v Failed inv
+tips_fault job v Switch inv = tips-given_up job v Failed inv
+tips_fault job v Cancel inv = tips-given_up job v Failed inv
+
+pub tips-step : (job : Job) (v : View) (e : Event) (flag : Bool) → IsGoodJob job → fits job e ≡ true → IsViewOf job v → TipsOf job (step job v e flag)
+tips-step job v e flag good f inv = step_cases (TipsOf job) job v e flag inv.tips (λ w b. tips_effect job v e flag good f inv w) (λ w b. tips_fault job v e inv)
