@@ -3,6 +3,7 @@ pub mod GoesOn
 pub mod Histories
 pub mod Layouts
 pub mod Makes
+pub mod Mirrors
 pub mod Steps
 pub mod Tips
 pub mod Unsent

@@ -302,7 +302,7 @@ tips-advanced job v d l live inv =
     ])
 
 -- a write at the front of a queue is done
-abbrev released_by : View → ℕ → Bool → View
+abbrev pub released_by : View → ℕ → Bool → View
 released_by v d running = record v {
   history = v.history ++ record { guest = (front (disk v d)).guest; outcome = Done } ∷ [];
   mark = if is_live v.phase then length v.history + 1 else v.mark;
@@ -337,7 +337,7 @@ pub tips-released : (job : Job) (v : View) (d : ℕ) → ReleaseGoes job v d →
 tips-released job v d goes inv = tips_released_by job v d (is_running v.phase) refl goes inv
 
 -- an operation that failed writes nothing
-faulted_wrote : (job : Job) (h : List Ended) (g unit : ℕ) → wrote job (push h (faulted_entry g)) unit (length h) ≡ false
+pub faulted_wrote : (job : Job) (h : List Ended) (g unit : ℕ) → wrote job (push h (faulted_entry g)) unit (length h) ≡ false
 faulted_wrote job h g unit = wrote-push_at job h (faulted_entry g) unit
 
 pub tips-ended_as : (job : Job) (v : View) (g : ℕ) → IsViewOf job v → TipsOf job (ended_as v g Faulted)
