@@ -2,6 +2,11 @@ pub mod Bags
 pub mod GoesOn
 pub mod Histories
 pub mod Layouts
+pub mod Steps
 pub mod Facts
+pub mod Makes
 pub mod Points
+pub mod Tips
+pub mod Unsent
+pub mod Mirrors
 pub mod First
