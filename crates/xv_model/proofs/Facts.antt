@@ -1,4 +1,4 @@
--- One step by its three ways, and in what range the units are that messages are made for.
+-- In what range the units are that messages are made for.
 use Rattle.std.specs.Prelude.{◌≡◌, ◌≤◌, ◌<◌, ℕ, ◌+◌, ◌-◌, Bool, true, false, length, Option, Some, None}
 use Rattle.std.proofs.Common.{arith, refl}
 use Rattle.xv_model.specs.Job.{Job, IsGoodJob, unit_count}
@@ -9,15 +9,6 @@ use Rattle.xv_model.specs.Step.{step, view_by, breaks}
 use Rattle.xv_model.specs.Invariant.{IsViewOf}
 use Rattle.xv_model.proofs.GoesOn.{GuestGoes, AdvanceGoes, ReleaseGoes, PageGoes}
 use Rattle.xv_model.proofs.Layouts.{is_block_after}
-
--- a step waits, goes on, or breaks
-view_by-cases : (P : View → Type 0) (job : Job) (v : View) (e : Event) (why : Option Why) (broken : Bool) → P v → (why ≡ None → broken ≡ false → P (effect job v e)) → (why ≡ None → broken ≡ true → P (fault_effect v e)) → P (view_by why broken job v e)
-view_by-cases P job v e (Some why) broken p goes broke = p
-view_by-cases P job v e None false p goes broke = goes refl refl
-view_by-cases P job v e None true p goes broke = broke refl refl
-
-pub step_cases : (P : View → Type 0) (job : Job) (v : View) (e : Event) (flag : Bool) → P v → (wait job v e flag ≡ None → breaks job v e flag ≡ false → P (effect job v e)) → (wait job v e flag ≡ None → breaks job v e flag ≡ true → P (fault_effect v e)) → P (step job v e flag)
-step_cases P job v e flag p goes broke = view_by-cases P job v e (wait job v e flag) (breaks job v e flag) p goes broke
 
 -- the units that messages are made for
 pub mirror_unit : (job : Job) (v : View) (g : ℕ) → IsGoodJob job → GuestGoes job v g → (next_operation job v g).unit.0 < unit_count job

@@ -14,7 +14,7 @@ use Rattle.xv_model.specs.Invariant.{CreditIsWhole, IsViewOf}
 use Rattle.xv_base.specs.declared.event.Event.TheVariants.{Guest, Begin, Read, Advance, Release, Round, Page, Send, Deliver, Apply, Ack, Credit, Stun, Switch, Cancel}
 use Rattle.xv_model.proofs.Bags.{new_message, length-messages-run, on_the_way-applied, on_the_way-sent, on_the_way-delivered}
 use Rattle.xv_model.proofs.GoesOn.{guest_goes, advance_goes, release_goes, page_goes, send_goes, apply_goes, ack_goes, BatchFits, batch_fits}
-use Rattle.xv_model.proofs.Facts.{step_cases}
+use Rattle.xv_model.proofs.Steps.{step_cases}
 
 -- the point of a view
 abbrev pub IsWhole : Job → View → Type 0

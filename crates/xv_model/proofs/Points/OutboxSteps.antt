@@ -12,7 +12,8 @@ use Rattle.xv_model.specs.Invariant.{EachVersionOnce, OutboxRises, message_at, I
 use Rattle.xv_base.specs.declared.event.Event.TheVariants.{Guest, Begin, Read, Advance, Release, Round, Page, Send, Deliver, Apply, Ack, Credit, Stun, Switch, Cancel}
 use Rattle.xv_model.proofs.Bags.{is_version-from, on_the_way-applied, on_the_way-sent, on_the_way-delivered-bag, ready-on_the_way, ready-outstanding, version-unit}
 use Rattle.xv_model.proofs.GoesOn.{advance_goes, apply_goes}
-use Rattle.xv_model.proofs.Facts.{step_cases, region_units}
+use Rattle.xv_model.proofs.Steps.{step_cases}
+use Rattle.xv_model.proofs.Facts.{region_units}
 use Rattle.xv_model.proofs.Points.Versions.{box_bag, versions-made_run, number-set_same, number-set_other}
 use Rattle.xv_model.proofs.Points.Outboxes.{rises-made, rises-dropped}
 

@@ -12,7 +12,8 @@ use Rattle.xv_model.specs.Invariant.{EachVersionOnce, TimesRise, IsViewOf}
 use Rattle.xv_base.specs.declared.event.Event.TheVariants.{Guest, Begin, Read, Advance, Release, Round, Page, Send, Deliver, Apply, Ack, Credit, Stun, Switch, Cancel}
 use Rattle.xv_model.proofs.Bags.{new_message, count-le, on_the_way-le, is_message-version, outstanding-applied, ready-next, ready-outstanding, ready-itself, message-has-version, outstanding-sent-bag, outstanding-delivered-bag, version-unit}
 use Rattle.xv_model.proofs.GoesOn.{advance_goes, page_goes, apply_goes, aim-mirror, running_is_live}
-use Rattle.xv_model.proofs.Facts.{step_cases, region_units}
+use Rattle.xv_model.proofs.Steps.{step_cases}
+use Rattle.xv_model.proofs.Facts.{region_units}
 use Rattle.xv_model.proofs.Points.Versions.{box_bag, box_bag-made, versions-made_run}
 use Rattle.xv_model.proofs.Points.Times.{Versioned, times-made, times-later, times-applied}
 

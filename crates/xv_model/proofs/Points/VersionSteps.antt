@@ -12,7 +12,8 @@ use Rattle.xv_model.specs.Invariant.{EachVersionOnce, IsViewOf}
 use Rattle.xv_base.specs.declared.event.Event.TheVariants.{Guest, Begin, Read, Advance, Release, Round, Page, Send, Deliver, Apply, Ack, Credit, Stun, Switch, Cancel}
 use Rattle.xv_model.proofs.Bags.{outstanding-applied, ready-next, ready-outstanding, outstanding-sent-bag, outstanding-delivered-bag, version-within, version-unit}
 use Rattle.xv_model.proofs.GoesOn.{guest_goes, advance_goes, release_goes, page_goes, apply_goes}
-use Rattle.xv_model.proofs.Facts.{step_cases, mirror_unit, front_unit, page_unit, region_units}
+use Rattle.xv_model.proofs.Steps.{step_cases}
+use Rattle.xv_model.proofs.Facts.{mirror_unit, front_unit, page_unit, region_units}
 use Rattle.xv_model.proofs.Points.Versions.{box_bag, versions-made-box, versions-made_run, versions-applied}
 
 -- the point of a view
