@@ -9,4 +9,9 @@ pub mod Points
 pub mod Tips
 pub mod Unsent
 pub mod Mirrors
+pub mod Lists
+pub mod Regions
+pub mod Legal
+pub mod Cancels
+pub mod Quiet
 pub mod First
