@@ -1,11 +1,10 @@
 -- In what range the units are that messages are made for.
-use Rattle.std.specs.Prelude.{◌≡◌, ◌≤◌, ◌<◌, ℕ, ◌+◌, ◌-◌, Bool, true, false, length, Option, Some, None}
-use Rattle.std.proofs.Common.{arith, refl}
+use Rattle.std.specs.Prelude.{◌≤◌, ◌<◌, ℕ, ◌+◌, ◌-◌, length}
+use Rattle.std.proofs.Common.{arith}
 use Rattle.xv_model.specs.Job.{Job, IsGoodJob, unit_count}
 use Rattle.xv_model.specs.View.{View, disk, front, least}
-use Rattle.xv_model.specs.Wait.{Event, Why, wait, next_operation}
-use Rattle.xv_model.specs.Effect.{effect, fault_effect, cursor_unit}
-use Rattle.xv_model.specs.Step.{step, view_by, breaks}
+use Rattle.xv_model.specs.Wait.{next_operation}
+use Rattle.xv_model.specs.Effect.{cursor_unit}
 use Rattle.xv_model.specs.Invariant.{IsViewOf}
 use Rattle.xv_model.proofs.GoesOn.{GuestGoes, AdvanceGoes, ReleaseGoes, PageGoes}
 use Rattle.xv_model.proofs.Layouts.{is_block_after}
