@@ -9,3 +9,4 @@ pub mod Legal
 pub mod Cancels
 pub mod Quiet
 pub mod Rounds
+pub mod Queues
