@@ -11,6 +11,8 @@ pub mod Unsent
 pub mod Mirrors
 pub mod Lists
 pub mod Regions
+pub mod Rounds
+pub mod Queues
 pub mod Legal
 pub mod Cancels
 pub mod Quiet
