@@ -17,3 +17,4 @@ pub mod Legal
 pub mod Cancels
 pub mod Quiet
 pub mod First
+pub mod Kept
