@@ -154,6 +154,10 @@ ready-held h e = ltb-true _ _ e
 pub ready-next : (h : Hold) → is_ready h ≡ true → (ready_message h).version ≡ number h.applied (ready_message h).unit.0 + 1
 ready-next h e = eqb-true _ _ (first_next-is h.applied h.held (ready-held h e))
 
+-- so it is on the way
+pub ready-on_the_way : (v : View) → is_ready v.hold ≡ true → (test : UnitHead → Bool) → test (ready_message v.hold) ≡ true → 0 < on_the_way v test
+ready-on_the_way v e test t = let k = place-count test v.hold.held (ready v.hold) (ready-held v.hold e) t in omega arith
+
 -- writing the ready message takes it away
 pub on_the_way-applied : (v : View) → is_ready v.hold ≡ true → (test : UnitHead → Bool) → on_the_way v test ≡ (if test (ready_message v.hold) then 1 else 0) + on_the_way (applied_next v) test
 on_the_way-applied v e test = omega (arith, count-remove test v.hold.held (ready v.hold) (ready-held v.hold e))
@@ -211,3 +215,16 @@ version-unit bag issued applied unit version p h =
     let a = version-above bag issued applied unit version p h in
     let b = version-within bag issued applied unit version p h in
     issued-unit issued unit (omega arith)
+
+-- the ready message is outstanding as its version, and as itself
+pub ready-outstanding : (v : View) → is_ready v.hold ≡ true → 0 < outstanding v (is_version (ready_message v.hold).unit.0 (ready_message v.hold).version)
+ready-outstanding v e =
+    let m = ready_message v.hold in
+    let k = ready-on_the_way v e (is_version m.unit.0 m.version) (is_version-from m.unit.0 m.version m refl refl) in
+    omega arith
+
+pub ready-itself : (v : View) → is_ready v.hold ≡ true → 0 < outstanding v (is_message (ready_message v.hold).unit.0 (ready_message v.hold).version (ready_message v.hold).at)
+ready-itself v e =
+    let m = ready_message v.hold in
+    let k = ready-on_the_way v e (is_message m.unit.0 m.version m.at) (is_message-from m.unit.0 m.version m.at m refl refl refl) in
+    omega arith

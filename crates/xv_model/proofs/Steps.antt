@@ -88,3 +88,7 @@ broke P job v Cancel flag k f w = k.fail (cancel_goes job v flag w).live
 pub step_keeps : (P : View → Type 0) (job : Job) (v : View) (e : Event) (flag : Bool) → fits job e ≡ true → P v → EffectsKeep P job v → P (step job v e flag)
 step_keeps P job v e flag f here k =
     ways P (wait job v e flag) (breaks job v e flag) job v e here (λ w b. went P job v e flag k f w b) (λ w b. broke P job v e flag k f w)
+
+-- what holds of the view, of the effect and of the effect of a failed call holds of the step
+pub step_cases : (P : View → Type 0) (job : Job) (v : View) (e : Event) (flag : Bool) → P v → (wait job v e flag ≡ None → breaks job v e flag ≡ false → P (effect job v e)) → (wait job v e flag ≡ None → breaks job v e flag ≡ true → P (fault_effect v e)) → P (step job v e flag)
+step_cases P job v e flag here goes fails = ways P (wait job v e flag) (breaks job v e flag) job v e here goes fails
