@@ -9,6 +9,7 @@
 mod answer;
 mod disks;
 mod event;
+mod laws;
 mod layout;
 mod limits;
 mod operation;
@@ -17,6 +18,9 @@ mod unit;
 
 pub use answer::{Cause, Entry, Note, Turn, Why};
 pub use event::{Event, Phase, Probe, Side, Totals};
+pub use laws::{
+    greatest_size_is_had, layouts_keep_limits, units_number_blocks, units_partition_bytes,
+};
 pub use layout::{Layout, LayoutFault};
 pub use limits::{Config, Fault};
 pub use operation::{Ended, Outcome, UnitHead, Waiting};

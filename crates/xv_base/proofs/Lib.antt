@@ -1,0 +1,4 @@
+pub mod Within
+pub mod Sums
+pub mod Blocks
+pub mod Partition
