@@ -2,3 +2,5 @@
 pub mod Histories
 pub mod Messages
 pub mod Entries
+pub mod Regions
+pub mod Copying

@@ -1,5 +1,5 @@
 -- What it means that an event goes on, in plain facts; what an operation's aim says; sets of pages; queues.
-use Rattle.std.proofs.Common.{◌≡◌, ◌≢◌, ◌≤◌, ◌<◌, ◌⊎◌, ℕ, zero, suc, ◌+◌, ◌-◌, min, Bool, true, false, not, ◌&&◌, ◌||◌, List, [], ◌∷◌, ◌++◌, length, get_or, set, replicate, Option, Some, None, refl, sym, ap, ◌∙◌, arith}
+use Rattle.std.proofs.Common.{◌≡◌, ◌≢◌, ◌≤◌, ◌<◌, ◌⊎◌, ℕ, zero, suc, ◌+◌, ◌-◌, min, Bool, true, false, not, ◌&&◌, ◌||◌, List, [], ◌∷◌, ◌++◌, length, get_or, set, replicate, Option, Some, None, refl, sym, ap, ◌∙◌, arith, subst, inl, inr}
 use Rattle.std.specs.Prelude.{◌==◌, nat_lt, nat_le, is_some, take, if◌then◌else◌}
 use Rattle.std.proofs.lemmas.Bool.{not-false, not-true, not_from_true, ltb-true, ltb-false, leb-true, leb-false, eqb-true, eqb-false, lt-ltb, le-ltb, le-leb, eq-eqb, or_parts, and_parts, and_cases, both_ways}
 use Rattle.std.proofs.lemmas.Bool.Decides.{nat_tests}
@@ -9,6 +9,7 @@ use Rattle.xv_model.specs.View.{View, Disk, Waiting, disk, front, number, member
 use Rattle.xv_model.specs.Wait.{Event, Why, Aim, Alone, Store, Join, Mirror, aim, is_store, is_join, is_mirror, next_operation, next_aim, has_cancel, reaches, is_before, cancel_due, is_full, room, unless, may_begin_round, may_stun, may_switch, wait}
 use Rattle.xv_model.specs.Effect.{batch, no_pages}
 use Rattle.xv_model.specs.Invariant.{waits_in, waits_in_all}
+use Rattle.xv_base.specs.declared.answer.Why.TheVariants.{TraceEnd, InQueue, CancelDue, Stunned as StunWait, Throttled, NoCredit, NothingThere, NotNow}
 use Rattle.xv_base.specs.declared.event.Phase.{Phase}
 use Rattle.xv_base.specs.declared.event.Phase.TheVariants.{Running, Stunned, Switched, Cancelled, Failed}
 use Rattle.xv_base.specs.declared.event.Event.TheVariants.{Guest, Begin, Read, Advance, Release, Round, Page, Send, Deliver, Apply, Ack, Credit, Stun, Switch, Cancel}
@@ -373,3 +374,212 @@ five_passed a b c d f s t u w z e =
     let x = unless-none a s (unless b t (unless c u (unless d w (unless f z None)))) e in
     let y = four_passed b c d f t u w z x.1 in
     (x.0, y.0, y.1, y.2, y.3)
+
+room_left : (a b : Bool) → a && b ≡ false → a ≡ true → b ≡ false
+room_left true b e f = e
+room_left false b e f = absurd (cc)
+
+three_false : (a b c : Bool) → (a || b || c) ≡ false → (a ≡ false) × (b ≡ false) × (c ≡ false)
+three_false false false false e = (refl, refl, refl)
+three_false false false true e = absurd (cc)
+three_false false true c e = absurd (cc)
+three_false true b c e = absurd (cc)
+
+deliver_flag : (a b : Bool) → not a && b ≡ false → a ≡ false → b ≡ false
+deliver_flag true b e f = absurd (cc)
+deliver_flag false b e f = e
+
+not_both : (a b : Bool) → a && b ≡ false → a ≡ true → b ≡ true → ⊥
+not_both true true e f g = cc
+not_both true false e f g = cc
+not_both false b e f g = cc
+
+round_tests : (a c l f d : Bool) → a && (if c then l else (f && not d)) ≡ true → (a ≡ true) × (c ≡ true → l ≡ true) × (c ≡ false → f ≡ true) × (c ≡ false → d ≡ false)
+round_tests true true l f d e = (refl, (λ _. e), (λ x. absurd (cc)), (λ x. absurd (cc)))
+round_tests true false l true true e = absurd (cc)
+round_tests true false l true false e = (refl, (λ x. absurd (cc)), (λ _. refl), (λ _. refl))
+round_tests true false l false d e = absurd (cc)
+round_tests false c l f d e = absurd (cc)
+
+stun_tests : (a b c d f : Bool) → a && b && c && d && f ≡ true → (a ≡ true) × (b ≡ true) × (c ≡ true) × (d ≡ true) × (f ≡ true)
+stun_tests true true true true true e = (refl, refl, refl, refl, refl)
+stun_tests true true true true false e = absurd (cc)
+stun_tests true true true false f e = absurd (cc)
+stun_tests true true false d f e = absurd (cc)
+stun_tests true false c d f e = absurd (cc)
+stun_tests false b c d f e = absurd (cc)
+
+switch_tests : (a b c : Bool) → a && b && c ≡ true → (a ≡ true) × (b ≡ true) × (c ≡ true)
+switch_tests true true true e = (refl, refl, refl)
+switch_tests true true false e = absurd (cc)
+switch_tests true false c e = absurd (cc)
+switch_tests false b c e = absurd (cc)
+
+pub guest_goes : (job : Job) (v : View) (g : ℕ) (flag : Bool) → wait job v (Guest (record { 0 = g })) flag ≡ None → GuestGoes job v g
+guest_goes job v g flag e =
+    let x = five_passed (nat_le (length (trace job g)) (ended v.history g)) (in_queue v.disks g) (cancel_due job v) (is_stunned v.phase) (is_mirror (next_aim job v g) && is_full job v) TraceEnd InQueue CancelDue StunWait Throttled e in
+    record {
+        more = leb-false (length (trace job g)) (ended v.history g) x.0;
+        in_no_queue = x.1;
+        not_due = x.2;
+        not_stunned = x.3;
+        has_room = λ m. leb-false job.config.outbox (length v.outbox.messages) (room_left (is_mirror (next_aim job v g)) (is_full job v) x.4 (rw m refl));
+    }
+
+pub begin_goes : (job : Job) (v : View) (d : ℕ) (flag : Bool) → wait job v (Begin d) flag ≡ None → BeginGoes job v d
+begin_goes job v d flag e =
+    let x = two_passed (not (is_running v.phase)) (is_copied (blocks job.shape.disks d) (disk v d) || not ((disk v d).region == 0) || not (is_empty (disk v d).queue)) NotNow NotNow e in
+    let y = three_false (is_copied (blocks job.shape.disks d) (disk v d)) (not ((disk v d).region == 0)) (not (is_empty (disk v d).queue)) x.1 in
+    let region_test = not-false ((disk v d).region == 0) y.1 in
+    record {
+        running = not-false (is_running v.phase) x.0;
+        no_region = eqb-true (disk v d).region 0 region_test;
+        not_copied = λ same. not_both ((disk v d).cursor == blocks job.shape.disks d) ((disk v d).region == 0) y.0 (eq-eqb (disk v d).cursor (blocks job.shape.disks d) same) region_test;
+        no_queue = empty-nil (disk v d).queue (not-false (is_empty (disk v d).queue) y.2);
+    }
+
+pub read_goes : (job : Job) (v : View) (d : ℕ) (flag : Bool) → wait job v (Read d) flag ≡ None → ReadGoes job v d
+read_goes job v d flag e =
+    let x = two_passed (not (is_running v.phase)) (nat_le (disk v d).region (disk v d).got) NotNow NotNow e in
+    record { running = not-false (is_running v.phase) x.0; not_read = leb-false (disk v d).region (disk v d).got x.1 }
+
+pub advance_goes : (job : Job) (v : View) (d : ℕ) (flag : Bool) → wait job v (Advance d) flag ≡ None → AdvanceGoes job v d
+advance_goes job v d flag e =
+    let x = three_passed (not (is_running v.phase)) (((disk v d).region == 0) || nat_lt (disk v d).got (disk v d).region) (nat_lt (room job v) (disk v d).region) NotNow NotNow Throttled e in
+    let y = or_parts ((disk v d).region == 0) (nat_lt (disk v d).got (disk v d).region) x.1 in
+    let nonzero = eqb-false (disk v d).region 0 y.0 in
+    let some : 0 < (disk v d).region = grind (arith, nonzero) in
+    let fits = ltb-false (room job v) (disk v d).region x.2 in
+    record {
+        running = not-false (is_running v.phase) x.0;
+        some_region = some;
+        all_read = ltb-false (disk v d).got (disk v d).region y.1;
+        has_room = omega (arith, some, fits);
+    }
+
+pub release_goes : (job : Job) (v : View) (d : ℕ) (flag : Bool) → wait job v (Release d) flag ≡ None → ReleaseGoes job v d
+release_goes job v d flag e =
+    let x = four_passed (is_empty (disk v d).queue) (cancel_due job v) (is_running v.phase && is_inside (disk v d) (block_of job.shape (front (disk v d)).unit.0)) (is_running v.phase && is_full job v) NothingThere CancelDue NotNow Throttled e in
+    record {
+        some_queue = some-length (disk v d).queue x.0;
+        not_due = x.1;
+        not_inside = λ r. room_left (is_running v.phase) (is_inside (disk v d) (block_of job.shape (front (disk v d)).unit.0)) x.2 r;
+        has_room = λ r. leb-false job.config.outbox (length v.outbox.messages) (room_left (is_running v.phase) (is_full job v) x.3 r);
+    }
+
+pub round_goes : (job : Job) (v : View) (flag : Bool) → wait job v Round flag ≡ None → RoundGoes job v
+round_goes job v flag e =
+    let x = two_passed (not (is_running v.phase)) (not (may_begin_round job v)) NotNow NotNow e in
+    let y = round_tests (is_empty_set v.to_send) (all_copied job v) (nat_lt v.rounds job.config.rounds) (job.format == 2) (is_empty_set v.dirty) (not-false (may_begin_round job v) x.1) in
+    record {
+        running = not-false (is_running v.phase) x.0;
+        none_to_send = y.0;
+        below_limit = λ c. ltb-true v.rounds job.config.rounds (y.1 c);
+        format_two = λ c. eqb-true job.format 2 (y.2 c);
+        some_dirty = y.3;
+    }
+
+pub page_goes : (job : Job) (v : View) (flag : Bool) → wait job v Page flag ≡ None → PageGoes job v
+page_goes job v flag e =
+    let x = three_passed (not (is_live v.phase)) (is_empty_set v.to_send) (is_full job v) NotNow NothingThere Throttled e in
+    record {
+        live = not-false (is_live v.phase) x.0;
+        some_to_send = x.1;
+        is_member = member-least v.to_send x.1;
+        in_range = least-lt v.to_send x.1;
+        has_room = leb-false job.config.outbox (length v.outbox.messages) x.2;
+    }
+
+pub send_goes : (job : Job) (v : View) (s : ℕ) (flag : Bool) → wait job v (Send s) flag ≡ None → SendGoes job v
+send_goes job v s flag e =
+    let x = three_passed (not (is_live v.phase)) (is_empty v.outbox.messages) (v.credit == 0) NotNow NothingThere NoCredit e in
+    let nonzero = eqb-false v.credit 0 x.2 in
+    record {
+        live = not-false (is_live v.phase) x.0;
+        some_message = some-length v.outbox.messages x.1;
+        some_credit = grind (arith, nonzero);
+    }
+
+pub deliver_goes : (job : Job) (v : View) (s : ℕ) (flag : Bool) → wait job v (Deliver s) flag ≡ None → DeliverGoes job v s flag
+deliver_goes job v s flag e =
+    let x = two_passed (not (is_live v.phase)) (not flag && is_empty (stream v s)) NotNow NothingThere e in
+    record {
+        live = not-false (is_live v.phase) x.0;
+        some_group = λ f. some-length (stream v s) (deliver_flag flag (is_empty (stream v s)) x.1 f);
+    }
+
+pub apply_goes : (job : Job) (v : View) (flag : Bool) → wait job v Apply flag ≡ None → ApplyGoes job v
+apply_goes job v flag e =
+    let x = two_passed (not (is_live v.phase)) (not (is_ready v.hold)) NotNow NothingThere e in
+    record { live = not-false (is_live v.phase) x.0; ready = not-false (is_ready v.hold) x.1 }
+
+pub ack_goes : (job : Job) (v : View) (flag : Bool) → wait job v Ack flag ≡ None → AckGoes job v
+ack_goes job v flag e =
+    let x = two_passed (not (is_live v.phase)) (v.freed == 0) NotNow NothingThere e in
+    let nonzero = eqb-false v.freed 0 x.1 in
+    record { live = not-false (is_live v.phase) x.0; some_freed = grind (arith, nonzero) }
+
+pub credit_goes : (job : Job) (v : View) (flag : Bool) → wait job v Credit flag ≡ None → CreditGoes job v flag
+credit_goes job v flag e =
+    let x = two_passed (not (is_live v.phase)) (not flag && is_empty v.acks) NotNow NothingThere e in
+    record {
+        live = not-false (is_live v.phase) x.0;
+        some_ack = λ f. some-length v.acks (deliver_flag flag (is_empty v.acks) x.1 f);
+    }
+
+pub stun_goes : (job : Job) (v : View) (flag : Bool) → wait job v Stun flag ≡ None → StunGoes job v
+stun_goes job v flag e =
+    let x = three_passed (not (is_running v.phase)) (is_before job.config.cancel (length v.history)) (not (may_stun job v)) NotNow CancelDue NotNow e in
+    let y = stun_tests (all_copied job v) (queues_empty v.disks) (is_empty_set v.to_send) (nat_lt 0 v.rounds) (nat_le (members v.dirty) job.config.dirty || nat_le job.config.rounds v.rounds) (not-false (may_stun job v) x.2) in
+    record {
+        running = not-false (is_running v.phase) x.0;
+        not_before = x.1;
+        copied = y.0;
+        no_queue = y.1;
+        none_to_send = y.2;
+        some_round = ltb-true 0 v.rounds y.3;
+        few_or_last = y.4;
+    }
+
+pub switch_goes : (job : Job) (v : View) (flag : Bool) → wait job v Switch flag ≡ None → SwitchGoes job v
+switch_goes job v flag e =
+    let x = three_passed (not (is_stunned v.phase)) (has_cancel job) (not (may_switch job v)) NotNow CancelDue NotNow e in
+    let y = switch_tests (is_empty_set v.to_send) (is_empty v.outbox.messages) (nat_le job.config.credit v.credit) (not-false (may_switch job v) x.2) in
+    record {
+        stunned = not-false (is_stunned v.phase) x.0;
+        no_cancel = x.1;
+        none_to_send = y.0;
+        none_made = empty-nil v.outbox.messages y.1;
+        credit_back = leb-true job.config.credit v.credit y.2;
+    }
+
+pub cancel_goes : (job : Job) (v : View) (flag : Bool) → wait job v Cancel flag ≡ None → CancelGoes job v
+cancel_goes job v flag e =
+    let x = unless-none (not (cancel_due job v)) NotNow None e in
+    let due = not-false (cancel_due job v) x.0 in
+    let parts = and_parts (reaches job.config.cancel (length v.history)) (is_live v.phase) due in
+    record { due = due; live = parts.1; reached = parts.0 }
+
+-- how many messages go at once
+pub record BatchFits (job : Job) (v : View) : Type 0 where
+  pub some : 1 ≤ batch job v
+  pub of_messages : batch job v ≤ length v.outbox.messages
+  pub of_credit : batch job v ≤ v.credit
+  pub of_group : batch job v ≤ job.group
+  pub one : job.format ≡ 1 → batch job v ≡ 1
+
+batch_by : (format group messages credit : ℕ) → ((format ≡ 1) × (group ≡ 1)) ⊎ ((format ≡ 2) × (1 ≤ group) × (group ≤ 16)) → 0 < messages → 0 < credit →
+    (1 ≤ (if format == 1 then 1 else min group (min messages credit))) × ((if format == 1 then 1 else min group (min messages credit)) ≤ messages)
+    × ((if format == 1 then 1 else min group (min messages credit)) ≤ credit) × ((if format == 1 then 1 else min group (min messages credit)) ≤ group)
+    × (format ≡ 1 → (if format == 1 then 1 else min group (min messages credit)) ≡ 1)
+batch_by format group messages credit (inl f) m c = subst (λ x. (1 ≤ (if x == 1 then 1 else min group (min messages credit))) × ((if x == 1 then 1 else min group (min messages credit)) ≤ messages)
+    × ((if x == 1 then 1 else min group (min messages credit)) ≤ credit) × ((if x == 1 then 1 else min group (min messages credit)) ≤ group)
+    × (x ≡ 1 → (if x == 1 then 1 else min group (min messages credit)) ≡ 1)) (sym f.0) (omega arith, omega arith, omega arith, omega (arith, f.1), λ _. refl)
+batch_by format group messages credit (inr f) m c = subst (λ x. (1 ≤ (if x == 1 then 1 else min group (min messages credit))) × ((if x == 1 then 1 else min group (min messages credit)) ≤ messages)
+    × ((if x == 1 then 1 else min group (min messages credit)) ≤ credit) × ((if x == 1 then 1 else min group (min messages credit)) ≤ group)
+    × (x ≡ 1 → (if x == 1 then 1 else min group (min messages credit)) ≡ 1)) (sym f.0) (omega (arith, f.1), omega arith, omega arith, omega arith, λ e. absurd (omega (arith, e)))
+
+pub batch_fits : (job : Job) (v : View) → IsGoodJob job → SendGoes job v → BatchFits job v
+batch_fits job v good goes =
+    let b = batch_by job.format job.group (length v.outbox.messages) v.credit good.formats goes.some_message goes.some_credit in
+    record { some = b.0; of_messages = b.1; of_credit = b.2; of_group = b.3; one = b.4 }
