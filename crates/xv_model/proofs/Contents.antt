@@ -4,3 +4,4 @@ pub mod Messages
 pub mod Entries
 pub mod Regions
 pub mod Copying
+pub mod Sending

@@ -1,11 +1,11 @@
 -- The events that leave the history alone and make no message: a region begun or read on, rounds, acknowledgements,
 -- the stun, and a migration given up.
-use Rattle.std.specs.Prelude.{◌≡◌, ◌≤◌, ◌<◌, ℕ, zero, suc, ◌+◌, Bool, true, false, List, [], ◌∷◌, ◌++◌, length, map, set, get_or, Some, None, unwrap_or}
+use Rattle.std.specs.Prelude.{◌≡◌, ◌≤◌, ◌<◌, ℕ, zero, suc, ◌+◌, Bool, true, false, List, [], ◌∷◌, ◌++◌, length, map, drop, set, get_or, Some, None, unwrap_or}
 use Rattle.std.proofs.Common.{arith, refl, ap, sym, ◌∙◌, subst}
 use Rattle.xv_model.specs.Job.{Job, IsGoodJob, unit_count, unit_of_block, blocks}
 use Rattle.xv_model.specs.Guest.{content}
-use Rattle.xv_model.specs.View.{View, Phase, disk, is_running, is_live, is_stunned, is_switched}
-use Rattle.xv_model.specs.Effect.{begun, block_read, round_begun, acknowledged, credited, stunned, given_up, cursor_unit}
+use Rattle.xv_model.specs.View.{View, Phase, disk, number, is_running, is_live, is_stunned, is_switched}
+use Rattle.xv_model.specs.Effect.{begun, block_read, round_begun, acknowledged, credited, stunned, given_up, cursor_unit, no_pages}
 use Rattle.xv_model.specs.Invariant.{IsViewOf}
 use Rattle.xv_model.specs.Contents.{Contents, HoldsContents, begin_moves, read_moves, give_up_moves, unit_content, region_content}
 use Rattle.xv_model.proofs.GoesOn.{ReadGoes, running_is_live, live_not_switched}
@@ -63,8 +63,9 @@ contents-block_read job v c d good inv lt goes holds =
       reads_are = holds.reads_are;
     }
 
-pub contents-round_begun : (job : Job) (v : View) (c : Contents) → HoldsContents job v c → HoldsContents job (round_begun v) c
-contents-round_begun job v c holds = record {
+-- numbers that no content stands for may change
+other_numbers : (job : Job) (v : View) (c : Contents) (dirty to_send : List Bool) (rounds credit freed : ℕ) (acks : List ℕ) → HoldsContents job v c → HoldsContents job (record v { dirty = dirty; to_send = to_send; rounds = rounds; credit = credit; freed = freed; acks = acks }) c
+other_numbers job v c dirty to_send rounds credit freed acks holds = record {
   source_length = holds.source_length;
   dest_length = holds.dest_length;
   source_is = holds.source_is;
@@ -79,40 +80,15 @@ contents-round_begun job v c holds = record {
   source_switched = holds.source_switched;
   reads_are = holds.reads_are;
 }
+
+pub contents-round_begun : (job : Job) (v : View) (c : Contents) → HoldsContents job v c → HoldsContents job (round_begun v) c
+contents-round_begun job v c holds = other_numbers job v c (no_pages v.dirty) v.dirty (v.rounds + 1) v.credit v.freed v.acks holds
 
 pub contents-acknowledged : (job : Job) (v : View) (c : Contents) → HoldsContents job v c → HoldsContents job (acknowledged v) c
-contents-acknowledged job v c holds = record {
-  source_length = holds.source_length;
-  dest_length = holds.dest_length;
-  source_is = holds.source_is;
-  outbox_is = holds.outbox_is;
-  streams_are = holds.streams_are;
-  held_is = holds.held_is;
-  dest_is = holds.dest_is;
-  regions_length = holds.regions_length;
-  region_length = holds.region_length;
-  region_is = holds.region_is;
-  dest_switched = holds.dest_switched;
-  source_switched = holds.source_switched;
-  reads_are = holds.reads_are;
-}
+contents-acknowledged job v c holds = other_numbers job v c v.dirty v.to_send v.rounds v.credit 0 (v.acks ++ v.freed ∷ []) holds
 
 pub contents-credited : (job : Job) (v : View) (c : Contents) → HoldsContents job v c → HoldsContents job (credited v) c
-contents-credited job v c holds = record {
-  source_length = holds.source_length;
-  dest_length = holds.dest_length;
-  source_is = holds.source_is;
-  outbox_is = holds.outbox_is;
-  streams_are = holds.streams_are;
-  held_is = holds.held_is;
-  dest_is = holds.dest_is;
-  regions_length = holds.regions_length;
-  region_length = holds.region_length;
-  region_is = holds.region_is;
-  dest_switched = holds.dest_switched;
-  source_switched = holds.source_switched;
-  reads_are = holds.reads_are;
-}
+contents-credited job v c holds = other_numbers job v c v.dirty v.to_send v.rounds (v.credit + number v.acks 0) v.freed (drop 1 v.acks) holds
 
 -- a guest that runs is not on the destination, nor is one that is stunned
 pub contents-stunned : (job : Job) (v : View) (c : Contents) → is_running v.phase ≡ true → HoldsContents job v c → HoldsContents job (stunned v) c
