@@ -5,3 +5,4 @@ pub mod Entries
 pub mod Regions
 pub mod Copying
 pub mod Sending
+pub mod Applying
