@@ -6,3 +6,4 @@ pub mod Regions
 pub mod Copying
 pub mod Sending
 pub mod Applying
+pub mod Switching
