@@ -7,3 +7,4 @@ pub mod Copying
 pub mod Sending
 pub mod Applying
 pub mod Switching
+pub mod Guests
