@@ -8,3 +8,4 @@ pub mod Sending
 pub mod Applying
 pub mod Switching
 pub mod Guests
+pub mod Operations
