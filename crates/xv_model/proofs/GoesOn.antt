@@ -1,13 +1,12 @@
 -- What it means that an event goes on, in plain facts; what an operation's aim says; sets of pages; queues.
-use Rattle.std.proofs.Common.{◌≡◌, ◌≢◌, ◌≤◌, ◌<◌, ◌⊎◌, ℕ, zero, suc, ◌+◌, ◌-◌, min, Bool, true, false, not, ◌&&◌, ◌||◌, List, [], ◌∷◌, ◌++◌, length, get_or, set, replicate, Option, Some, None, refl, sym, ap, ◌∙◌, arith, subst, inl, inr}
-use Rattle.std.specs.Prelude.{◌==◌, nat_lt, nat_le, is_some, take, if◌then◌else◌}
-use Rattle.std.proofs.lemmas.Bool.{not-false, not-true, not_from_true, ltb-true, ltb-false, leb-true, leb-false, eqb-true, eqb-false, lt-ltb, le-ltb, le-leb, eq-eqb, or_parts, and_parts, and_cases, both_ways}
-use Rattle.std.proofs.lemmas.Bool.Decides.{nat_tests}
+use Rattle.std.proofs.Common.{◌≡◌, ◌≢◌, ◌≤◌, ◌<◌, ◌⊎◌, ℕ, zero, suc, ◌+◌, min, Bool, true, false, not, ◌&&◌, ◌||◌, List, [], ◌∷◌, length, get_or, set, replicate, Option, None, refl, sym, ap, arith, subst, inl, inr}
+use Rattle.std.specs.Prelude.{◌==◌, nat_lt, nat_le, is_some, if◌then◌else◌}
+use Rattle.std.proofs.lemmas.Bool.{not-false, ltb-true, ltb-false, leb-true, leb-false, eqb-true, eqb-false, eq-eqb, or_parts, and_parts}
 use Rattle.xv_model.specs.Job.{Job, UnitOp, IsGoodJob, is_page, disk_of, block_of, blocks, trace}
 use Rattle.xv_model.specs.Guest.{ended}
-use Rattle.xv_model.specs.View.{View, Disk, Waiting, disk, front, number, member, members, least, is_empty, is_empty_set, is_running, is_stunned, is_live, is_switched, is_behind, is_inside, is_copied, all_copied, queues_empty, waits_for, in_queue, stream, is_ready, no_disk}
-use Rattle.xv_model.specs.Wait.{Event, Why, Aim, Alone, Store, Join, Mirror, aim, is_store, is_join, is_mirror, next_operation, next_aim, has_cancel, reaches, is_before, cancel_due, is_full, room, unless, may_begin_round, may_stun, may_switch, wait}
-use Rattle.xv_model.specs.Effect.{batch, no_pages}
+use Rattle.xv_model.specs.View.{View, Disk, Waiting, disk, front, member, members, least, is_empty, is_empty_set, is_running, is_stunned, is_live, is_switched, is_behind, is_inside, is_copied, all_copied, queues_empty, waits_for, in_queue, stream, is_ready, no_disk}
+use Rattle.xv_model.specs.Wait.{Why, Aim, Alone, Store, Join, Mirror, aim, is_mirror, next_aim, has_cancel, reaches, is_before, cancel_due, is_full, room, unless, may_begin_round, may_stun, may_switch, wait}
+use Rattle.xv_model.specs.Effect.{batch}
 use Rattle.xv_model.specs.Invariant.{waits_in, waits_in_all}
 use Rattle.xv_base.specs.declared.answer.Why.TheVariants.{TraceEnd, InQueue, CancelDue, Stunned as StunWait, Throttled, NoCredit, NothingThere, NotNow}
 use Rattle.xv_base.specs.declared.event.Phase.{Phase}
@@ -260,9 +259,9 @@ pub aim-alone : (job : Job) (v : View) (op : UnitOp) → aim job v op ≡ Alone 
 aim-alone job v op e =
     let t = alone_tests (not (is_running v.phase && is_some op.write)) (is_page job.shape op.unit.0) (is_behind (disk v (disk_of job.shape op.unit.0)) (block_of job.shape op.unit.0)) (is_inside (disk v (disk_of job.shape op.unit.0)) (block_of job.shape op.unit.0)) e in
     record {
-        block = λ r w. (t (not_alone _ _ r w)).0;
-        not_behind = λ r w. (t (not_alone _ _ r w)).1;
-        not_inside = λ r w. (t (not_alone _ _ r w)).2;
+      block = λ r w. (t (not_alone _ _ r w)).0;
+      not_behind = λ r w. (t (not_alone _ _ r w)).1;
+      not_inside = λ r w. (t (not_alone _ _ r w)).2;
     }
 
 -- each event's facts where it goes on
@@ -419,11 +418,11 @@ pub guest_goes : (job : Job) (v : View) (g : ℕ) (flag : Bool) → wait job v (
 guest_goes job v g flag e =
     let x = five_passed (nat_le (length (trace job g)) (ended v.history g)) (in_queue v.disks g) (cancel_due job v) (is_stunned v.phase) (is_mirror (next_aim job v g) && is_full job v) TraceEnd InQueue CancelDue StunWait Throttled e in
     record {
-        more = leb-false (length (trace job g)) (ended v.history g) x.0;
-        in_no_queue = x.1;
-        not_due = x.2;
-        not_stunned = x.3;
-        has_room = λ m. leb-false job.config.outbox (length v.outbox.messages) (room_left (is_mirror (next_aim job v g)) (is_full job v) x.4 (rw m refl));
+      more = leb-false (length (trace job g)) (ended v.history g) x.0;
+      in_no_queue = x.1;
+      not_due = x.2;
+      not_stunned = x.3;
+      has_room = λ m. leb-false job.config.outbox (length v.outbox.messages) (room_left (is_mirror (next_aim job v g)) (is_full job v) x.4 (rw m refl));
     }
 
 pub begin_goes : (job : Job) (v : View) (d : ℕ) (flag : Bool) → wait job v (Begin d) flag ≡ None → BeginGoes job v d
@@ -432,10 +431,10 @@ begin_goes job v d flag e =
     let y = three_false (is_copied (blocks job.shape.disks d) (disk v d)) (not ((disk v d).region == 0)) (not (is_empty (disk v d).queue)) x.1 in
     let region_test = not-false ((disk v d).region == 0) y.1 in
     record {
-        running = not-false (is_running v.phase) x.0;
-        no_region = eqb-true (disk v d).region 0 region_test;
-        not_copied = λ same. not_both ((disk v d).cursor == blocks job.shape.disks d) ((disk v d).region == 0) y.0 (eq-eqb (disk v d).cursor (blocks job.shape.disks d) same) region_test;
-        no_queue = empty-nil (disk v d).queue (not-false (is_empty (disk v d).queue) y.2);
+      running = not-false (is_running v.phase) x.0;
+      no_region = eqb-true (disk v d).region 0 region_test;
+      not_copied = λ same. not_both ((disk v d).cursor == blocks job.shape.disks d) ((disk v d).region == 0) y.0 (eq-eqb (disk v d).cursor (blocks job.shape.disks d) same) region_test;
+      no_queue = empty-nil (disk v d).queue (not-false (is_empty (disk v d).queue) y.2);
     }
 
 pub read_goes : (job : Job) (v : View) (d : ℕ) (flag : Bool) → wait job v (Read d) flag ≡ None → ReadGoes job v d
@@ -451,20 +450,20 @@ advance_goes job v d flag e =
     let some : 0 < (disk v d).region = grind (arith, nonzero) in
     let fits = ltb-false (room job v) (disk v d).region x.2 in
     record {
-        running = not-false (is_running v.phase) x.0;
-        some_region = some;
-        all_read = ltb-false (disk v d).got (disk v d).region y.1;
-        has_room = omega (arith, some, fits);
+      running = not-false (is_running v.phase) x.0;
+      some_region = some;
+      all_read = ltb-false (disk v d).got (disk v d).region y.1;
+      has_room = omega (arith, some, fits);
     }
 
 pub release_goes : (job : Job) (v : View) (d : ℕ) (flag : Bool) → wait job v (Release d) flag ≡ None → ReleaseGoes job v d
 release_goes job v d flag e =
     let x = four_passed (is_empty (disk v d).queue) (cancel_due job v) (is_running v.phase && is_inside (disk v d) (block_of job.shape (front (disk v d)).unit.0)) (is_running v.phase && is_full job v) NothingThere CancelDue NotNow Throttled e in
     record {
-        some_queue = some-length (disk v d).queue x.0;
-        not_due = x.1;
-        not_inside = λ r. room_left (is_running v.phase) (is_inside (disk v d) (block_of job.shape (front (disk v d)).unit.0)) x.2 r;
-        has_room = λ r. leb-false job.config.outbox (length v.outbox.messages) (room_left (is_running v.phase) (is_full job v) x.3 r);
+      some_queue = some-length (disk v d).queue x.0;
+      not_due = x.1;
+      not_inside = λ r. room_left (is_running v.phase) (is_inside (disk v d) (block_of job.shape (front (disk v d)).unit.0)) x.2 r;
+      has_room = λ r. leb-false job.config.outbox (length v.outbox.messages) (room_left (is_running v.phase) (is_full job v) x.3 r);
     }
 
 pub round_goes : (job : Job) (v : View) (flag : Bool) → wait job v Round flag ≡ None → RoundGoes job v
@@ -472,22 +471,22 @@ round_goes job v flag e =
     let x = two_passed (not (is_running v.phase)) (not (may_begin_round job v)) NotNow NotNow e in
     let y = round_tests (is_empty_set v.to_send) (all_copied job v) (nat_lt v.rounds job.config.rounds) (job.format == 2) (is_empty_set v.dirty) (not-false (may_begin_round job v) x.1) in
     record {
-        running = not-false (is_running v.phase) x.0;
-        none_to_send = y.0;
-        below_limit = λ c. ltb-true v.rounds job.config.rounds (y.1 c);
-        format_two = λ c. eqb-true job.format 2 (y.2 c);
-        some_dirty = y.3;
+      running = not-false (is_running v.phase) x.0;
+      none_to_send = y.0;
+      below_limit = λ c. ltb-true v.rounds job.config.rounds (y.1 c);
+      format_two = λ c. eqb-true job.format 2 (y.2 c);
+      some_dirty = y.3;
     }
 
 pub page_goes : (job : Job) (v : View) (flag : Bool) → wait job v Page flag ≡ None → PageGoes job v
 page_goes job v flag e =
     let x = three_passed (not (is_live v.phase)) (is_empty_set v.to_send) (is_full job v) NotNow NothingThere Throttled e in
     record {
-        live = not-false (is_live v.phase) x.0;
-        some_to_send = x.1;
-        is_member = member-least v.to_send x.1;
-        in_range = least-lt v.to_send x.1;
-        has_room = leb-false job.config.outbox (length v.outbox.messages) x.2;
+      live = not-false (is_live v.phase) x.0;
+      some_to_send = x.1;
+      is_member = member-least v.to_send x.1;
+      in_range = least-lt v.to_send x.1;
+      has_room = leb-false job.config.outbox (length v.outbox.messages) x.2;
     }
 
 pub send_goes : (job : Job) (v : View) (s : ℕ) (flag : Bool) → wait job v (Send s) flag ≡ None → SendGoes job v
@@ -495,17 +494,17 @@ send_goes job v s flag e =
     let x = three_passed (not (is_live v.phase)) (is_empty v.outbox.messages) (v.credit == 0) NotNow NothingThere NoCredit e in
     let nonzero = eqb-false v.credit 0 x.2 in
     record {
-        live = not-false (is_live v.phase) x.0;
-        some_message = some-length v.outbox.messages x.1;
-        some_credit = grind (arith, nonzero);
+      live = not-false (is_live v.phase) x.0;
+      some_message = some-length v.outbox.messages x.1;
+      some_credit = grind (arith, nonzero);
     }
 
 pub deliver_goes : (job : Job) (v : View) (s : ℕ) (flag : Bool) → wait job v (Deliver s) flag ≡ None → DeliverGoes job v s flag
 deliver_goes job v s flag e =
     let x = two_passed (not (is_live v.phase)) (not flag && is_empty (stream v s)) NotNow NothingThere e in
     record {
-        live = not-false (is_live v.phase) x.0;
-        some_group = λ f. some-length (stream v s) (deliver_flag flag (is_empty (stream v s)) x.1 f);
+      live = not-false (is_live v.phase) x.0;
+      some_group = λ f. some-length (stream v s) (deliver_flag flag (is_empty (stream v s)) x.1 f);
     }
 
 pub apply_goes : (job : Job) (v : View) (flag : Bool) → wait job v Apply flag ≡ None → ApplyGoes job v
@@ -523,8 +522,8 @@ pub credit_goes : (job : Job) (v : View) (flag : Bool) → wait job v Credit fla
 credit_goes job v flag e =
     let x = two_passed (not (is_live v.phase)) (not flag && is_empty v.acks) NotNow NothingThere e in
     record {
-        live = not-false (is_live v.phase) x.0;
-        some_ack = λ f. some-length v.acks (deliver_flag flag (is_empty v.acks) x.1 f);
+      live = not-false (is_live v.phase) x.0;
+      some_ack = λ f. some-length v.acks (deliver_flag flag (is_empty v.acks) x.1 f);
     }
 
 pub stun_goes : (job : Job) (v : View) (flag : Bool) → wait job v Stun flag ≡ None → StunGoes job v
@@ -532,13 +531,13 @@ stun_goes job v flag e =
     let x = three_passed (not (is_running v.phase)) (is_before job.config.cancel (length v.history)) (not (may_stun job v)) NotNow CancelDue NotNow e in
     let y = stun_tests (all_copied job v) (queues_empty v.disks) (is_empty_set v.to_send) (nat_lt 0 v.rounds) (nat_le (members v.dirty) job.config.dirty || nat_le job.config.rounds v.rounds) (not-false (may_stun job v) x.2) in
     record {
-        running = not-false (is_running v.phase) x.0;
-        not_before = x.1;
-        copied = y.0;
-        no_queue = y.1;
-        none_to_send = y.2;
-        some_round = ltb-true 0 v.rounds y.3;
-        few_or_last = y.4;
+      running = not-false (is_running v.phase) x.0;
+      not_before = x.1;
+      copied = y.0;
+      no_queue = y.1;
+      none_to_send = y.2;
+      some_round = ltb-true 0 v.rounds y.3;
+      few_or_last = y.4;
     }
 
 pub switch_goes : (job : Job) (v : View) (flag : Bool) → wait job v Switch flag ≡ None → SwitchGoes job v
@@ -546,11 +545,11 @@ switch_goes job v flag e =
     let x = three_passed (not (is_stunned v.phase)) (has_cancel job) (not (may_switch job v)) NotNow CancelDue NotNow e in
     let y = switch_tests (is_empty_set v.to_send) (is_empty v.outbox.messages) (nat_le job.config.credit v.credit) (not-false (may_switch job v) x.2) in
     record {
-        stunned = not-false (is_stunned v.phase) x.0;
-        no_cancel = x.1;
-        none_to_send = y.0;
-        none_made = empty-nil v.outbox.messages y.1;
-        credit_back = leb-true job.config.credit v.credit y.2;
+      stunned = not-false (is_stunned v.phase) x.0;
+      no_cancel = x.1;
+      none_to_send = y.0;
+      none_made = empty-nil v.outbox.messages y.1;
+      credit_back = leb-true job.config.credit v.credit y.2;
     }
 
 pub cancel_goes : (job : Job) (v : View) (flag : Bool) → wait job v Cancel flag ≡ None → CancelGoes job v

@@ -1,7 +1,7 @@
 -- Units and their disks and blocks, and which blocks come to lie behind a disk's cursor when it moves.
 use Rattle.std.proofs.Common.{◌≡◌, ℕ, zero, suc, ◌+◌, ◌-◌, ◌<◌, ◌≤◌, ◌&&◌, ◌||◌, nat_lt, not, Bool, true, false, if◌then◌else◌, List, [], ◌∷◌, length, map, set, get_or, refl, sym, ap, subst, ◌∙◌, ◌⊎◌, inl, inr, arith}
 use Rattle.std.proofs.lemmas.List.{get_or-set_same, get_or-set_other}
-use Rattle.std.proofs.lemmas.Bool.{ltb-true, ltb-false, lt-ltb, le-ltb, cases_lt, cases_eq, and_parts, and_from, not-true}
+use Rattle.std.proofs.lemmas.Bool.{ltb-true, ltb-false, lt-ltb, le-ltb, cases_lt, cases_eq, and_parts, not-true}
 use Rattle.xv_base.specs.Units.{Shape, units, is_page, disk_of, block_of, unit_of_block, blocks}
 use Rattle.xv_base.specs.Laws.{NumbersBlocks}
 use Rattle.xv_base.proofs.Partition.{numbers_blocks}
@@ -190,8 +190,7 @@ behind_now s ds d new k l m le h =
     let b = is_block_after s d c k m (omega arith) in
     let now = cursor_of-set_same s ds d new u l b.disk in
     let was : cursor_of s ds u ≡ c = ap (λ i. (get_or ds i no_disk).cursor) b.disk in
-    let block = b.block in
-    (
+    let block = b.block in (
       behind_block_from s (set ds d new) u (record { in_range = b.in_range; no_page = b.no_page; behind = omega arith }),
       unsent_block_from s ds u (record { in_range = b.in_range; no_page = b.no_page; not_behind = omega arith }),
     )
