@@ -9,3 +9,5 @@ pub mod Applying
 pub mod Switching
 pub mod Guests
 pub mod Operations
+pub mod Steps
+pub mod Sizes

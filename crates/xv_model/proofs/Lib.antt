@@ -1,3 +1,4 @@
 pub mod Contents
 pub mod GoesOn
+pub mod Histories
 pub mod Layouts
