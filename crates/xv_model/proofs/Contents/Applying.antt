@@ -1,11 +1,11 @@
 -- The next held message is written on the destination.
-use Rattle.std.specs.Prelude.{◌≡◌, ◌≤◌, ◌<◌, ℕ, zero, suc, ◌+◌, ◌==◌, Bool, true, false, List, [], ◌∷◌, ◌++◌, length, map, take, drop, set, remove, get_or, Some, None}
-use Rattle.std.proofs.Common.{arith, refl, ap, sym, ◌∙◌, subst, inl, inr}
+use Rattle.std.specs.Prelude.{◌≡◌, ◌<◌, ℕ, suc, List, [], length, map, take, drop, set, remove, get_or}
+use Rattle.std.proofs.Common.{arith, ap, sym, ◌∙◌, inl, inr}
 use Rattle.std.proofs.lemmas.Bool.{cases_eq, ltb-true}
 use Rattle.std.proofs.lemmas.List.{map-append, take-map, drop-map, get_or-map, get_or-set_same, get_or-set_other, length-set}
-use Rattle.xv_model.specs.Job.{Job, IsGoodJob, unit_count}
-use Rattle.xv_model.specs.Guest.{Ended, content}
-use Rattle.xv_model.specs.View.{View, UnitHead, number, no_message, ready, ready_message, is_live, is_switched}
+use Rattle.xv_model.specs.Job.{Job, unit_count}
+use Rattle.xv_model.specs.Guest.{content}
+use Rattle.xv_model.specs.View.{View, number, no_message, ready, ready_message}
 use Rattle.xv_model.specs.Effect.{applied_next}
 use Rattle.xv_model.specs.Outstanding.{is_version}
 use Rattle.xv_model.specs.Invariant.{IsViewOf}

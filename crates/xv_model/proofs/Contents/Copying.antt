@@ -1,17 +1,15 @@
 -- The events that leave the history alone and make no message: a region begun or read on, rounds, acknowledgements,
 -- the stun, and a migration given up.
-use Rattle.std.specs.Prelude.{◌≡◌, ◌≤◌, ◌<◌, ℕ, zero, suc, ◌+◌, Bool, true, false, List, [], ◌∷◌, ◌++◌, length, map, drop, set, get_or, Some, None, unwrap_or}
-use Rattle.std.proofs.Common.{arith, refl, ap, sym, ◌∙◌, subst}
-use Rattle.xv_model.specs.Job.{Job, IsGoodJob, unit_count, unit_of_block, blocks}
-use Rattle.xv_model.specs.Guest.{content}
-use Rattle.xv_model.specs.View.{View, Phase, disk, number, is_running, is_live, is_stunned, is_switched}
+use Rattle.std.specs.Prelude.{◌≡◌, ◌<◌, ℕ, ◌+◌, Bool, true, false, List, [], ◌∷◌, ◌++◌, length, drop}
+use Rattle.std.proofs.Common.{arith, refl}
+use Rattle.xv_model.specs.Job.{Job, IsGoodJob, blocks}
+use Rattle.xv_model.specs.View.{View, Phase, disk, number, is_running, is_live, is_switched}
 use Rattle.xv_model.specs.Effect.{begun, block_read, round_begun, acknowledged, credited, stunned, given_up, cursor_unit, no_pages}
 use Rattle.xv_model.specs.Invariant.{IsViewOf}
-use Rattle.xv_model.specs.Contents.{Contents, HoldsContents, begin_moves, read_moves, give_up_moves, unit_content, region_content}
+use Rattle.xv_model.specs.Contents.{Contents, HoldsContents, begin_moves, read_moves, give_up_moves, region_content}
 use Rattle.xv_model.proofs.GoesOn.{ReadGoes, running_is_live, live_not_switched}
 use Rattle.xv_model.proofs.Layouts.{is_block_after}
-use Rattle.xv_model.proofs.Contents.Regions.{AreRegions, IsRegion, regions-set, region-none, region-more, regions-given_up}
-use Rattle.xv_base.specs.declared.event.Phase.TheVariants.{Stunned}
+use Rattle.xv_model.proofs.Contents.Regions.{AreRegions, regions-set, region-none, region-more, regions-given_up}
 
 -- the regions of contents that hold
 pub regions_of : (job : Job) (v : View) (c : Contents) → HoldsContents job v c → AreRegions job v.history v.disks c.regions

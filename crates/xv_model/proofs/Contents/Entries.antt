@@ -1,12 +1,12 @@
 -- One more entry: the device's contents, a unit that it does not write, and the bytes read.
-use Rattle.std.specs.Prelude.{◌≡◌, ◌≤◌, ◌<◌, ℕ, zero, suc, ◌+◌, ◌==◌, ◌&&◌, Bool, true, false, List, [], ◌∷◌, ◌++◌, length, map, take, drop, set, get_or, is_some, is_none, Option, Some, None, if◌then◌else◌}
-use Rattle.std.proofs.Common.{arith, refl, ap, sym, ◌∙◌, subst, inl, inr}
-use Rattle.std.proofs.lemmas.Bool.{eqb-true, eqb-false, cases_Bool, eq-eqb, and_right}
+use Rattle.std.specs.Prelude.{◌≡◌, ◌<◌, ℕ, suc, ◌==◌, ◌&&◌, Bool, true, false, List, [], ◌∷◌, ◌++◌, length, is_some, is_none, Option, Some, None, if◌then◌else◌}
+use Rattle.std.proofs.Common.{arith, refl, ap, sym, ◌∙◌}
+use Rattle.std.proofs.lemmas.Bool.{eqb-true, eqb-false, and_right}
 use Rattle.std.proofs.lemmas.List.{length_push, get_or-set_same, get_or-set_other, append-nil}
-use Rattle.xv_model.specs.Job.{Job, UnitOp, operation}
+use Rattle.xv_model.specs.Job.{Job, UnitOp}
 use Rattle.xv_model.specs.Guest.{Ended, is_done, writes_to, overlaid, written, content, part, reads}
 use Rattle.xv_model.specs.Contents.{unit_content, after_operation, read_of}
-use Rattle.xv_model.proofs.Contents.Histories.{operation_of, content-new, content-append, reads-new}
+use Rattle.xv_model.proofs.Contents.Histories.{operation_of, content-new, reads-new}
 
 pub length-new : (h : List Ended) (e : Ended) → length (h ++ e ∷ []) ≡ suc (length h)
 length-new h e = let l = length_push h e in omega arith

@@ -1,21 +1,21 @@
 -- The events that add an entry to the history: a guest's operation, alone, stored, mirrored or failed, and a queued
 -- write released.
-use Rattle.std.specs.Prelude.{◌≡◌, ◌≤◌, ◌<◌, ℕ, zero, suc, ◌+◌, ◌==◌, ◌||◌, ◌&&◌, Bool, true, false, List, [], ◌∷◌, ◌++◌, length, map, set, get_or, is_some, Some, None, unwrap_or, if◌then◌else◌}
-use Rattle.std.proofs.Common.{arith, refl, ap, sym, ◌∙◌, subst, inl, inr}
-use Rattle.std.proofs.lemmas.Bool.{cases_eq, cases_lt, cases_Bool, eqb-true, and_parts, and_from, or_right, or_left, false_from_ne_true, ltb-true, le-leb, lt-ltb, le-ltb}
-use Rattle.std.proofs.lemmas.List.{map_push, length_push, length-set}
-use Rattle.xv_model.specs.Job.{Job, UnitOp, IsGoodJob, unit_count, is_page, disk_of, block_of, blocks, operation}
-use Rattle.xv_model.specs.Guest.{Ended, ended, content, reads, is_done, writes_to}
-use Rattle.xv_model.specs.View.{View, Disk, Outbox, UnitHead, no_disk, disk, front, number, is_running, is_live, is_stunned, is_switched, is_behind, is_inside}
-use Rattle.xv_model.specs.Effect.{cursor_unit, joined, front_gone, made}
-use Rattle.xv_model.specs.Outstanding.{outstanding, count, count_streams}
+use Rattle.std.specs.Prelude.{◌≡◌, ◌<◌, ℕ, ◌+◌, ◌&&◌, Bool, true, false, List, [], ◌∷◌, ◌++◌, length, map, unwrap_or, if◌then◌else◌}
+use Rattle.std.proofs.Common.{arith, ap, sym, ◌∙◌, inl, inr}
+use Rattle.std.proofs.lemmas.Bool.{cases_Bool, and_from, or_right, le-leb, lt-ltb, le-ltb}
+use Rattle.std.proofs.lemmas.List.{length-set}
+use Rattle.xv_model.specs.Job.{Job, UnitOp, unit_count, is_page, disk_of, block_of}
+use Rattle.xv_model.specs.Guest.{Ended, content, reads, is_done, writes_to}
+use Rattle.xv_model.specs.View.{View, Disk, Outbox, UnitHead, disk, number, is_running, is_stunned, is_switched, is_behind, is_inside}
+use Rattle.xv_model.specs.Effect.{cursor_unit}
+use Rattle.xv_model.specs.Outstanding.{outstanding}
 use Rattle.xv_model.specs.Invariant.{IsViewOf}
 use Rattle.xv_model.specs.Contents.{Contents, HoldsContents, unit_content, after_operation, read_of, message_content}
 use Rattle.xv_model.proofs.Layouts.{is_block_after}
 use Rattle.xv_model.proofs.Contents.Histories.{operation_of, content-append}
-use Rattle.xv_model.proofs.Contents.Messages.{is_this, map-same, map_groups-same, map_streams-same}
-use Rattle.xv_model.proofs.Contents.Entries.{content-unwritten, device-after, reads-after, reads-faulted, read_of-write, length-new}
-use Rattle.xv_model.proofs.Contents.Regions.{AreRegions, IsRegion, block_content, regions-kept, regions-later}
+use Rattle.xv_model.proofs.Contents.Messages.{is_this, map-same, map_streams-same}
+use Rattle.xv_model.proofs.Contents.Entries.{content-unwritten, device-after, reads-after, reads-faulted}
+use Rattle.xv_model.proofs.Contents.Regions.{AreRegions, regions-later}
 use Rattle.xv_model.proofs.Contents.Copying.{regions_of}
 
 -- what stands on the way, and what was written, does not change by later entries
@@ -129,7 +129,7 @@ entry_done job v c e op mark dirty disks box out inv holds done is lt are outbox
 pub entry_failed : (job : Job) (v : View) (c : Contents) (e : Ended) (mark : ℕ) (disks : List Disk) → IsViewOf job v → HoldsContents job v c → is_done e.outcome ≡ false → AreRegions job (v.history ++ e ∷ []) disks c.regions → HoldsContents job (record v { history = v.history ++ e ∷ []; mark = mark; disks = disks }) c
 entry_failed job v c e mark disks inv holds failed are =
     let same : (unit : ℕ) → content job (v.history ++ e ∷ []) unit (length (v.history ++ e ∷ [])) ≡ content job v.history unit (length v.history)
-        = λ unit. content-unwritten job v.history e unit (ap (λ b. b && writes_to (operation_of job v.history e) unit) failed) in
+    = λ unit. content-unwritten job v.history e unit (ap (λ b. b && writes_to (operation_of job v.history e) unit) failed) in
     record {
       source_length = holds.source_length;
       dest_length = holds.dest_length;

@@ -1,11 +1,9 @@
 -- Entries more change nothing at or below the old length, and the new entry's write is laid over the unit's content.
-use Rattle.std.specs.Prelude.{◌≡◌, ◌≤◌, ◌<◌, ℕ, zero, suc, ◌+◌, ◌==◌, ◌&&◌, Bool, true, false, List, [], ◌∷◌, ◌++◌, length, take, drop, set, get_or, is_some, is_none, Option, Some, None, if◌then◌else◌}
-use Rattle.std.proofs.Common.{arith, refl, ap, sym, ◌∙◌}
-use Rattle.std.proofs.lemmas.Bool.{eqb-true, ne_eqb, cases_Bool, eq-eqb}
-use Rattle.std.proofs.lemmas.List.{get_or_append_left, take-append-le, length_push, get_or_push, take_at, get_or-set_same, get_or-set_other, append-nil}
+use Rattle.std.specs.Prelude.{◌≡◌, ◌≤◌, ◌<◌, ℕ, zero, suc, ◌&&◌, List, [], ◌∷◌, ◌++◌, length, is_none, if◌then◌else◌}
+use Rattle.std.proofs.Common.{arith, refl}
+use Rattle.std.proofs.lemmas.List.{get_or_append_left, take-append-le, get_or_push, take_at}
 use Rattle.xv_model.specs.Job.{Job, UnitOp, operation}
-use Rattle.xv_model.specs.Guest.{Ended, ended, entry, no_entry, is_done, operation_at, writes_to, wrote, overlaid, written, content, part, read_bytes, reads}
-use Rattle.xv_model.specs.Contents.{unit_content, after_operation, read_of}
+use Rattle.xv_model.specs.Guest.{Ended, ended, no_entry, is_done, operation_at, writes_to, wrote, written, content, part, read_bytes, reads}
 
 pub operation_at-append : (job : Job) (h t : List Ended) (i : ℕ) → i < length h → operation_at job (h ++ t) i ≡ operation_at job h i
 operation_at-append job h t i lt = rw (get_or_append_left h t no_entry i lt, take-append-le i h t (omega arith))

@@ -1,12 +1,12 @@
 -- Two functions that agree on every outstanding message map the messages to the same.
-use Rattle.std.specs.Prelude.{◌≡◌, ◌≤◌, ◌<◌, ℕ, zero, suc, ◌+◌, ◌==◌, ◌&&◌, Bool, true, false, List, [], ◌∷◌, ◌++◌, length, map, get_or, if◌then◌else◌}
-use Rattle.std.proofs.Common.{arith, refl, ap, sym, ◌∙◌, inl, inr}
+use Rattle.std.specs.Prelude.{◌≡◌, ◌<◌, ℕ, zero, suc, Bool, true, List, [], ◌∷◌, length, map, get_or}
+use Rattle.std.proofs.Common.{arith, refl, inl, inr}
 use Rattle.std.proofs.lemmas.Bool.{and_from, eq-eqb, cases_lt}
 use Rattle.std.proofs.lemmas.List.{get_or_past}
 use Rattle.xv_model.specs.Job.{Job, unit_count}
 use Rattle.xv_model.specs.Invariant.{IsViewOf}
 use Rattle.xv_model.specs.View.{View, UnitHead, number, no_message}
-use Rattle.xv_model.specs.Outstanding.{count, count_groups, count_streams, is_message, is_version, outstanding, on_the_way}
+use Rattle.xv_model.specs.Outstanding.{count, count_groups, count_streams, is_message, is_version, outstanding}
 
 -- the test that a message itself passes
 abbrev pub is_this : UnitHead → UnitHead → Bool

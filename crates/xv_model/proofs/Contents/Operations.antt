@@ -1,19 +1,19 @@
 -- A guest's operation by its aim, and a queued write released, keep the contents.
-use Rattle.std.specs.Prelude.{◌≡◌, ◌≤◌, ◌<◌, ℕ, zero, suc, ◌+◌, ◌==◌, ◌||◌, ◌&&◌, not, Bool, true, false, List, [], ◌∷◌, ◌++◌, length, map, set, get_or, is_some, Some, None, if◌then◌else◌}
-use Rattle.std.proofs.Common.{arith, refl, ap, sym, ◌∙◌, subst, inl, inr}
-use Rattle.std.proofs.lemmas.Bool.{cases_Bool, eqb-true, and_parts, false_from_ne_true, or_right}
+use Rattle.std.specs.Prelude.{◌≡◌, ◌<◌, ℕ, ◌+◌, ◌==◌, ◌||◌, Bool, true, false, List, [], ◌∷◌, ◌++◌, length, map, set, is_some, if◌then◌else◌}
+use Rattle.std.proofs.Common.{arith, refl, ap, sym, ◌∙◌, subst}
+use Rattle.std.proofs.lemmas.Bool.{eqb-true, and_parts, false_from_ne_true, or_right}
 use Rattle.std.proofs.lemmas.List.{map_push, length_push}
-use Rattle.xv_model.specs.Job.{Job, UnitOp, IsGoodJob, unit_count, is_page, disk_of, block_of, operation}
+use Rattle.xv_model.specs.Job.{Job, UnitOp, IsGoodJob, unit_count, is_page, disk_of, block_of}
 use Rattle.xv_model.specs.Guest.{Ended, ended, content, is_done, writes_to}
-use Rattle.xv_model.specs.View.{View, Disk, Outbox, UnitHead, no_disk, disk, front, number, is_running, is_live, is_stunned, is_switched, is_behind, is_inside}
-use Rattle.xv_model.specs.Wait.{Aim, Alone, Store, Join, Mirror, aim, is_join, is_mirror, is_store, next_operation, next_aim}
+use Rattle.xv_model.specs.View.{View, Outbox, disk, front, is_running, is_live, is_stunned, is_switched, is_behind, is_inside}
+use Rattle.xv_model.specs.Wait.{Aim, Alone, Store, Join, Mirror, aim, is_join, is_mirror, next_operation, next_aim}
 use Rattle.xv_model.specs.Effect.{cursor_unit, joined, front_gone, made, guest_by, guest_done, released, ended_as, with_disk}
 use Rattle.xv_model.specs.Invariant.{IsViewOf}
 use Rattle.xv_model.specs.Contents.{Contents, HoldsContents, unit_content, after_operation, read_of, message_content, guest_moves, release_moves, front_operation}
 use Rattle.xv_model.proofs.GoesOn.{GuestGoes, ReleaseGoes, MeansStore, MeansMirror, MeansJoin, MeansAlone, aim-store, aim-mirror, aim-join, aim-alone, queues_empty-queue, running_is_live, live_not_switched}
 use Rattle.xv_model.proofs.Contents.Histories.{operation_of}
 use Rattle.xv_model.proofs.Contents.Entries.{device-after, read_of-write}
-use Rattle.xv_model.proofs.Contents.Regions.{AreRegions, regions-kept}
+use Rattle.xv_model.proofs.Contents.Regions.{regions-kept}
 use Rattle.xv_model.proofs.Contents.Copying.{regions_of}
 use Rattle.xv_model.proofs.Contents.Guests.{entry_done, entry_failed, regions_after, outbox-later, IsRead, is_read}
 use Rattle.xv_base.specs.declared.operation.Outcome.TheVariants.{Done, Faulted}
@@ -194,9 +194,9 @@ contents-released job v c d inv goes holds =
     let is = is_front job v d inv goes in
     let op = front_operation job v d in
     let are = regions-kept job (v.history ++ done_front v d ∷ []) v.disks c.regions d (front_gone (disk v d))
-        (regions_after job v c (done_front v d) holds (λ i k l m. front_untouched job v d (cursor_unit job v i + k) goes is (is_read job v i k inv l m))) refl refl in
+    (regions_after job v c (done_front v d) holds (λ i k l m. front_untouched job v d (cursor_unit job v i + k) goes is (is_read job v i k inv l m))) refl refl in
     let done = entry_done job v c (done_front v d) op (if is_live v.phase then length v.history + 1 else v.mark) v.dirty _ (if is_running v.phase then made v.outbox (front (disk v d)).unit.0 (length v.history + 1) else v.outbox) _
-        inv holds refl refl (let u = is.unit in let i = is.in_range in omega arith) are (front_outbox job v c d (is_running v.phase) inv is holds) in
+    inv holds refl refl (let u = is.unit in let i = is.in_range in omega arith) are (front_outbox job v c d (is_running v.phase) inv is holds) in
     let off = subst (λ b. HoldsContents job (released v d) (record c {
       source = if b then c.source else after_operation op c.source;
       dest = if b then after_operation op c.dest else c.dest;

@@ -1,8 +1,8 @@
 -- The blocks read of each disk's region, as a disk and its region change and as the history grows.
-use Rattle.std.specs.Prelude.{◌≡◌, ◌≢◌, ◌≤◌, ◌<◌, ℕ, zero, suc, ◌+◌, Bool, true, false, List, [], ◌∷◌, ◌++◌, length, map, set, get_or}
-use Rattle.std.proofs.Common.{arith, refl, ap, sym, ◌∙◌, subst, inl, inr, ◌⊎◌}
+use Rattle.std.specs.Prelude.{◌≡◌, ◌<◌, ℕ, ◌+◌, List, [], ◌∷◌, ◌++◌, length, map, set, get_or}
+use Rattle.std.proofs.Common.{arith, refl, ap, sym, ◌∙◌, subst, inl, inr}
 use Rattle.std.proofs.lemmas.Bool.{cases_eq, cases_lt}
-use Rattle.std.proofs.lemmas.List.{get_or-set_same, get_or-set_other, length-set, length-map, get_or-map, get_or_append_left, get_or_push, length_push, get_or_past}
+use Rattle.std.proofs.lemmas.List.{get_or-set_same, get_or-set_other, length-set, length-map, get_or-map, get_or_append_left, get_or_push, length_push}
 use Rattle.xv_model.specs.Job.{Job, unit_of_block}
 use Rattle.xv_model.specs.Guest.{Ended, content}
 use Rattle.xv_model.specs.View.{Disk, no_disk}
@@ -27,6 +27,7 @@ regions-set job h disks regions d new region are is = record { one_each = length
   where
     lengths : length (set regions d region) ≡ length (set disks d new)
     lengths = length-set regions d region ∙ are.one_each ∙ sym (length-set disks d new)
+
     each : (i : ℕ) → i < length (set disks d new) → IsRegion job h i (get_or (set disks d new) i no_disk) (get_or (set regions d region) i [])
     each i lt =
         let in_disks : i < length disks = let l = length-set disks d new in omega arith in
@@ -50,6 +51,7 @@ region-more job h d disk new region block is cursor got read = record { read = l
   where
     lengths : length (region ++ block ∷ []) ≡ new.got
     lengths = let l = length_push region block in let r = is.read in omega arith
+
     each : (k : ℕ) → k < new.got → get_or (region ++ block ∷ []) k [] ≡ block_content job h d new.cursor k
     each k lt = rw cursor (elim (cases_lt k disk.got) [
       | inl old ↦ get_or_append_left region (block ∷ []) [] k (let r = is.read in omega arith) ∙ is.each k old

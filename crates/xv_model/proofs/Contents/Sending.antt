@@ -1,16 +1,15 @@
 -- The events that make and move messages.
-use Rattle.std.specs.Prelude.{◌≡◌, ◌≤◌, ◌<◌, ℕ, zero, suc, ◌+◌, ◌==◌, Bool, true, false, List, [], ◌∷◌, ◌++◌, length, map, take, drop, set, remove, get_or, Some, None}
-use Rattle.std.proofs.Common.{arith, refl, ap, sym, ◌∙◌, subst, inl, inr}
-use Rattle.std.proofs.lemmas.Bool.{cases_eq, ltb-true}
-use Rattle.std.proofs.lemmas.List.{map-append, map_push, map-set, take-map, drop-map, take_more, take_all, append_assoc, append-nil, get_or-map, get_or-set_same, get_or-set_other, length-set, length-map}
-use Rattle.xv_model.specs.Job.{Job, IsGoodJob, unit_count}
+use Rattle.std.specs.Prelude.{◌≡◌, ◌≤◌, ◌<◌, ℕ, zero, suc, ◌+◌, List, [], ◌∷◌, ◌++◌, length, map, take, drop, set, get_or}
+use Rattle.std.proofs.Common.{arith, refl, ap, sym, ◌∙◌}
+use Rattle.std.proofs.lemmas.List.{map-append, map_push, map-set, take-map, drop-map, take_more, take_all, append_assoc, append-nil}
+use Rattle.xv_model.specs.Job.{Job, unit_count}
 use Rattle.xv_model.specs.Guest.{Ended, content}
-use Rattle.xv_model.specs.View.{View, UnitHead, Outbox, disk, number, least, stream, front_group, no_message, ready, ready_message, is_live, is_running, is_switched}
-use Rattle.xv_model.specs.Effect.{made, made_run, advanced, page_sent_off, sent, delivered, batch, cursor_unit}
+use Rattle.xv_model.specs.View.{View, Outbox, disk, least, stream, front_group}
+use Rattle.xv_model.specs.Effect.{made_run, advanced, page_sent_off, sent, delivered, batch, cursor_unit}
 use Rattle.xv_model.specs.Invariant.{IsViewOf}
 use Rattle.xv_model.specs.Contents.{Contents, HoldsContents, advance_moves, page_moves, send_moves, deliver_moves, unit_content, region_content, message_content}
 use Rattle.xv_model.proofs.GoesOn.{AdvanceGoes, PageGoes, live_not_switched}
-use Rattle.xv_model.proofs.Contents.Regions.{AreRegions, IsRegion, block_content, regions-set, region-none}
+use Rattle.xv_model.proofs.Contents.Regions.{regions-set, region-none}
 use Rattle.xv_model.proofs.Contents.Copying.{regions_of}
 
 -- a message for each of n units in a row, and the contents that stand with them
@@ -20,8 +19,8 @@ run_contents job h box unit at read (suc n) le each =
     let f = message_content job h in
     let front : map f (made_run box unit at n).messages ≡ map f box.messages ++ take n read = run_contents job h box unit at read n (omega arith) (λ k l. each k (omega arith)) in
     let last : get_or read n [] ≡ content job h (unit + n) at = each n (omega arith) in
-    let more : take (suc n) read ≡ take n read ++ get_or read n [] ∷ [] = 
-        (let one : suc n ≡ n + 1 = omega arith in ap (λ i. take i read) one) ∙ take_more read n [] le in
+    let more : take (suc n) read ≡ take n read ++ get_or read n [] ∷ [] =
+    (let one : suc n ≡ n + 1 = omega arith in ap (λ i. take i read) one) ∙ take_more read n [] le in
     map_push f (made_run box unit at n).messages _
     ∙ ap (λ x. x ++ content job h (unit + n) at ∷ []) front
     ∙ append_assoc (map f box.messages) (take n read) (content job h (unit + n) at ∷ [])
@@ -88,7 +87,7 @@ contents-sent job v c s holds =
     let old : get_or c.streams s [] ≡ map (map f) (stream v s) = ap (λ x. get_or x s []) holds.streams_are ∙ get_or-map_same (map (map f)) v.streams s [] [] refl in
     let group : take n c.outbox ≡ map f (take n v.outbox.messages) = ap (take n) holds.outbox_is ∙ take-map f n v.outbox.messages in
     let new : get_or c.streams s [] ++ take n c.outbox ∷ [] ≡ map (map f) (stream v s ++ take n v.outbox.messages ∷ []) =
-        rw (old, group) (sym (map_push (map f) (stream v s) (take n v.outbox.messages))) in
+    rw (old, group) (sym (map_push (map f) (stream v s) (take n v.outbox.messages))) in
     record {
       source_length = holds.source_length;
       dest_length = holds.dest_length;

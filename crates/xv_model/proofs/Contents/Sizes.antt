@@ -1,12 +1,12 @@
 -- The contents of a unit have the unit's size after each beginning of a legal history.
-use Rattle.std.specs.Prelude.{◌≡◌, ◌≤◌, ◌<◌, ℕ, zero, suc, ◌+◌, ◌-◌, ◌==◌, ◌&&◌, ◌%◌, min, Bool, true, false, List, [], ◌∷◌, ◌++◌, length, take, drop, replicate, get_or, is_some, Option, Some, None, count_by, slice_index, if◌then◌else◌}
-use Rattle.std.proofs.Common.{arith, refl, ap, sym, ◌∙◌, subst, inl, inr}
-use Rattle.std.proofs.lemmas.Bool.{and_parts, eqb-true, eq-eqb, cases_Bool}
+use Rattle.std.specs.Prelude.{◌≡◌, ◌≤◌, ◌<◌, ℕ, zero, suc, ◌+◌, ◌==◌, ◌%◌, Bool, true, false, List, [], ◌∷◌, ◌++◌, length, take, drop, is_some, Option, Some, None, slice_index, if◌then◌else◌}
+use Rattle.std.proofs.Common.{arith, refl, ◌∙◌, subst}
+use Rattle.std.proofs.lemmas.Bool.{and_parts, eqb-true, eq-eqb}
 use Rattle.std.proofs.lemmas.List.{length-replicate, length-append, length-take, length-drop, length_push}
 use Rattle.std.proofs.lemmas.List.Sums.{count_by_more_yes}
 use Rattle.xv_model.proofs.Histories.{ended-take-le}
-use Rattle.xv_model.specs.Job.{Job, UnitOp, Init, IsGoodJob, IsLegal, unit_count, size, repeated, operation, trace}
-use Rattle.xv_model.specs.Guest.{Ended, ended, entry, no_entry, is_done, operation_at, writes_to, wrote, overlaid, written, initial_by, initial, content}
+use Rattle.xv_model.specs.Job.{Job, Init, IsGoodJob, IsLegal, size, repeated, trace}
+use Rattle.xv_model.specs.Guest.{Ended, ended, entry, no_entry, is_done, operation_at, writes_to, wrote, overlaid, written, initial_by, content}
 
 pub length-repeated : (pattern : List ℕ) (n : ℕ) → length (repeated pattern n) ≡ n
 length-repeated pattern zero = refl

@@ -1,14 +1,13 @@
 -- The first contents hold, and every step keeps the contents.
-use Rattle.std.specs.Prelude.{◌≡◌, ◌≤◌, ◌<◌, ℕ, zero, suc, ◌+◌, Bool, true, false, List, [], ◌∷◌, length, map, replicate, get_or, Option, Some, None}
-use Rattle.std.specs.List.{range_with_len}
-use Rattle.std.proofs.Common.{arith, refl, ap, sym, ◌∙◌, subst}
+use Rattle.std.specs.Prelude.{◌≡◌, ◌<◌, ℕ, zero, suc, Bool, true, false, List, [], length, map, replicate, Option, Some, None}
+use Rattle.std.proofs.Common.{arith, refl, sym, ◌∙◌}
 use Rattle.std.proofs.lemmas.Bool.{ltb-true}
 use Rattle.std.proofs.lemmas.List.{length-map, get_or-map, get_or-replicate}
 use Rattle.std.proofs.lemmas.List.FromFn.{length-map-range_with_len, get_or-map-range_with_len}
 use Rattle.xv_base.specs.declared.unit.DiskShape.{DiskShape}
 use Rattle.xv_model.specs.Job.{Job, IsGoodJob, unit_count}
-use Rattle.xv_model.specs.Guest.{Ended, initial}
-use Rattle.xv_model.specs.View.{View, UnitHead, Disk, no_disk, number, first_view, is_live}
+use Rattle.xv_model.specs.Guest.{initial}
+use Rattle.xv_model.specs.View.{View, Disk, no_disk, number, first_view}
 use Rattle.xv_model.specs.Wait.{Event, Why, wait, fits}
 use Rattle.xv_model.specs.Effect.{effect, fault_effect}
 use Rattle.xv_model.specs.Step.{view_by, step, breaks}

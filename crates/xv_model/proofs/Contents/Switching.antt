@@ -1,16 +1,16 @@
 -- At the switchover nothing is outstanding, every unit is settled, and so the destination has the guest's contents.
-use Rattle.std.specs.Prelude.{◌≡◌, ◌≤◌, ◌<◌, ℕ, zero, suc, ◌+◌, ◌==◌, ◌||◌, ◌&&◌, Bool, true, false, List, [], ◌∷◌, ◌++◌, length, map, get_or, Some, None, unwrap_or, sum, if◌then◌else◌}
-use Rattle.std.proofs.Common.{arith, refl, ap, sym, ◌∙◌, subst, inl, inr}
-use Rattle.std.proofs.lemmas.Bool.{cases_eq, cases_lt, cases_Bool, eqb-true, and_parts, or_left, false_from_ne_true, lt-ltb}
+use Rattle.std.specs.Prelude.{◌≡◌, ◌≤◌, ◌<◌, ℕ, zero, suc, ◌==◌, ◌||◌, ◌&&◌, Bool, true, false, List, [], ◌∷◌, length, map, get_or, None, unwrap_or, if◌then◌else◌}
+use Rattle.std.proofs.Common.{arith, refl, ap, sym, ◌∙◌, inl, inr}
+use Rattle.std.proofs.lemmas.Bool.{cases_lt, cases_Bool, eqb-true, and_parts, or_left, false_from_ne_true}
 use Rattle.xv_base.specs.declared.unit.DiskShape.{DiskShape}
-use Rattle.xv_model.specs.Job.{Job, IsGoodJob, unit_count, is_page, disk_of, block_of, blocks}
+use Rattle.xv_model.specs.Job.{Job, unit_count, is_page, disk_of, blocks}
 use Rattle.xv_model.specs.Guest.{Ended, content, wrote, written, operation_at}
-use Rattle.xv_model.specs.View.{View, Disk, UnitHead, no_disk, number, all_copied, all_copied_by, is_live, is_stunned, is_switched}
+use Rattle.xv_model.specs.View.{View, Disk, UnitHead, no_disk, number, all_copied_by, is_stunned, is_switched}
 use Rattle.xv_model.specs.Wait.{wait}
 use Rattle.xv_model.specs.Effect.{switched}
-use Rattle.xv_model.specs.Outstanding.{count, count_groups, count_streams, on_the_way, outstanding, any, is_version}
+use Rattle.xv_model.specs.Outstanding.{count, count_groups, count_streams, outstanding, any, is_version}
 use Rattle.xv_model.specs.Invariant.{IsViewOf, is_settled}
-use Rattle.xv_model.specs.Contents.{Contents, HoldsContents, unit_content}
+use Rattle.xv_model.specs.Contents.{Contents, HoldsContents}
 use Rattle.xv_model.proofs.GoesOn.{SwitchGoes, switch_goes, none-member, stunned_is_live, live_not_switched}
 use Rattle.xv_model.proofs.Layouts.{disk_in, block_in, settled_page, settled_block, behind_block_from}
 use Rattle.xv_base.specs.declared.event.Event.TheVariants.{Switch}
@@ -89,7 +89,7 @@ applied_is_last job v unit inv goes lt =
     let mark = inv.history.marked (stunned_is_live v.phase goes.stunned) in
     let recorded = inv.times.recorded_to_mark unit in
     let none : (i : ℕ) → number v.hold.recorded unit ≤ i → i < length v.history → wrote job v.history unit i ≡ false
-        = λ i le l. false_from_ne_true (wrote job v.history unit i) (λ wrote. (let before = inv.tips.covers unit (number v.hold.recorded unit) i settled (record { outstanding = λ some. absurd (omega arith); all_applied = λ e. refl }) (omega arith) wrote in omega arith)) in
+    = λ i le l. false_from_ne_true (wrote job v.history unit i) (λ wrote. (let before = inv.tips.covers unit (number v.hold.recorded unit) i settled (record { outstanding = λ some. absurd (omega arith); all_applied = λ e. refl }) (omega arith) wrote in omega arith)) in
     (omega arith, sym (content-unwritten_from job v.history unit (number v.hold.recorded unit) (length v.history) (omega arith) none))
 
 pub contents-switched : (job : Job) (v : View) (c : Contents) → IsViewOf job v → SwitchGoes job v → HoldsContents job v c → HoldsContents job (switched v) c
