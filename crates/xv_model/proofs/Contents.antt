@@ -11,3 +11,5 @@ pub mod Guests
 pub mod Operations
 pub mod Steps
 pub mod Sizes
+pub mod Unwritten
+pub mod Runs

@@ -7,7 +7,7 @@ use Rattle.xv_model.specs.Guest.{Ended, initial, content, reads, overlaid, part}
 use Rattle.xv_model.specs.View.{View, UnitHead, number, least, disk, front, ready, ready_message, is_running, is_switched}
 use Rattle.xv_model.specs.Wait.{Event, Why, wait, next_operation, next_aim, is_join, is_mirror}
 use Rattle.xv_model.specs.Effect.{batch, cursor_unit}
-use Rattle.xv_model.specs.Step.{breaks}
+use Rattle.xv_model.specs.Step.{Entry, breaks, step, is_flagged}
 use Rattle.xv_base.specs.declared.event.Event.TheVariants.{Guest, Begin, Read, Advance, Release, Round, Page, Send, Deliver, Apply, Ack, Credit, Stun, Switch, Cancel}
 
 -- `regions` has for each disk the blocks read of its region; a message's content stands where the message stands
@@ -148,6 +148,12 @@ contents_by None true job v event c = fault_moves event c
 
 abbrev pub step_contents : Job → View → Event → Bool → Contents → Contents
 step_contents job v event flag c = contents_by (wait job v event flag) (breaks job v event flag) job v event c
+
+-- the contents after a journal, each entry's call failing where its answer says so
+abbrev pub contents_after : Job → View → Contents → List Entry → Contents
+contents_after job v c [] = c
+contents_after job v c (e ∷ es) =
+    contents_after job (step job v e.event (is_flagged e.turn)) (step_contents job v e.event (is_flagged e.turn) c) es
 
 -- the unmigrated guest's content of a message's unit, after the entries that the message was made after
 abbrev pub message_content : Job → List Ended → UnitHead → List ℕ

@@ -1,14 +1,14 @@
 //! The laws of the contents, each as the contract of a function that does nothing.
 
-ghost use Rattle.std.specs.Prelude.{◌≡◌, ◌≤◌, ◌<◌, ℕ, Bool, true, List, ◌++◌, length, None};
+ghost use Rattle.std.specs.Prelude.{◌≡◌, ◌≤◌, ◌<◌, ℕ, Bool, true, false, List, ◌++◌, length, None};
 ghost use Rattle.xv_model.specs.Job.{Job, IsGoodJob, unit_count, size, trace};
 ghost use Rattle.xv_model.specs.Guest.{Ended, ended, content, reads};
-ghost use Rattle.xv_model.specs.View.{View, UnitHead, first_view};
+ghost use Rattle.xv_model.specs.View.{View, UnitHead, number, is_switched, first_view};
 ghost use Rattle.xv_model.specs.Wait.{Event, wait, fits};
 ghost use Rattle.xv_model.specs.Step.{step};
 ghost use Rattle.xv_model.specs.Outstanding.{outstanding};
 ghost use Rattle.xv_model.specs.Invariant.{IsViewOf};
-ghost use Rattle.xv_model.specs.Contents.{Contents, HoldsContents, first_contents, step_contents};
+ghost use Rattle.xv_model.specs.Contents.{Contents, HoldsContents, first_contents, step_contents, unit_content};
 ghost use Rattle.xv_base.specs.declared.event.Event.TheVariants.{Switch};
 
 /// A migration begins with contents that hold, whatever stands on the destination.
@@ -35,4 +35,11 @@ pub fn append_keeps_contents()
 /// A unit's content has the unit's size after every beginning of a history in which no guest has ended more than its trace.
 pub fn contents_have_their_size()
     ensures { (job : Job) (history : List Ended) (unit n : ℕ) → IsGoodJob job → unit < unit_count job → ((guest : ℕ) → ended history guest ≤ length (trace job guest)) → n ≤ length history → length (content job history unit n) ≡ size job.shape unit }
+{}
+
+/// A destination unit that no message was applied to is as it was before the step, until the switchover.
+pub fn unwritten_units_stay()
+    ensures none_before { (job : Job) (v : View) (e : Event) (flag : Bool) (unit : ℕ) → number (step job v e flag).hold.applied unit ≡ 0 → number v.hold.applied unit ≡ 0 }
+    ensures not_switched_before { (job : Job) (v : View) (e : Event) (flag : Bool) → is_switched (step job v e flag).phase ≡ false → is_switched v.phase ≡ false }
+    ensures same { (job : Job) (v : View) (c : Contents) (e : Event) (flag : Bool) (unit : ℕ) → IsViewOf job v → is_switched (step job v e flag).phase ≡ false → number (step job v e flag).hold.applied unit ≡ 0 → unit_content (step_contents job v e flag c).dest unit ≡ unit_content c.dest unit }
 {}
