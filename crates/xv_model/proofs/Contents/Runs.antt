@@ -1,6 +1,5 @@
 -- A whole journal keeps the contents, where every step keeps the invariant.
 use Rattle.std.specs.Prelude.{◌≡◌, ◌&&◌, Bool, true, List, [], ◌∷◌}
-use Rattle.std.specs.List.{list_all}
 use Rattle.std.proofs.lemmas.Bool.{and_parts}
 use Rattle.xv_model.specs.Job.{Job, IsGoodJob}
 use Rattle.xv_model.specs.View.{View}

@@ -1,11 +1,11 @@
 -- A destination unit that nothing was applied to stays as it was until the switchover.
-use Rattle.std.specs.Prelude.{◌≡◌, ◌≤◌, ◌<◌, ℕ, zero, suc, ◌+◌, ◌==◌, Bool, true, false, nat_lt, List, [], ◌∷◌, length, set, get_or, Option, Some, None, if◌then◌else◌}
-use Rattle.std.proofs.Common.{arith, refl, ap, sym, ◌∙◌, subst, inl, inr}
-use Rattle.std.proofs.lemmas.Bool.{cases_eq, cases_lt, cases_Bool, eqb-true, ltb-true, false_from_ne_true}
+use Rattle.std.specs.Prelude.{◌≡◌, ◌<◌, ℕ, suc, ◌+◌, Bool, true, false, nat_lt, List, [], ◌∷◌, length, set, get_or, Option, Some, None, if◌then◌else◌}
+use Rattle.std.proofs.Common.{arith, refl, ap, sym, ◌∙◌, inl, inr}
+use Rattle.std.proofs.lemmas.Bool.{cases_eq, cases_lt, eqb-true, ltb-true}
 use Rattle.std.proofs.lemmas.List.{get_or-set_same, get_or-set_other, set_past}
 use Rattle.xv_model.specs.Job.{Job}
-use Rattle.xv_model.specs.View.{View, Phase, UnitHead, number, no_message, is_next, first_next, ready, ready_message, is_live, is_running, is_stunned, is_switched}
-use Rattle.xv_model.specs.Wait.{Event, Why, Aim, Alone, Store, Join, Mirror, wait, next_operation, next_aim}
+use Rattle.xv_model.specs.View.{View, UnitHead, number, no_message, is_next, first_next, ready, ready_message, is_switched}
+use Rattle.xv_model.specs.Wait.{Event, Why, wait, next_operation}
 use Rattle.xv_model.specs.Effect.{effect, fault_effect, applied_next}
 use Rattle.xv_model.specs.Step.{view_by, step, breaks}
 use Rattle.xv_model.specs.Outstanding.{is_version}
