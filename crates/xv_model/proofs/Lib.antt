@@ -18,3 +18,4 @@ pub mod Cancels
 pub mod Quiet
 pub mod First
 pub mod Kept
+pub mod Contents
