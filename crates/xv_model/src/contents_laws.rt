@@ -1,14 +1,15 @@
 //! The laws of the contents, each as the contract of a function that does nothing.
 
 ghost use Rattle.std.specs.Prelude.{◌≡◌, ◌≤◌, ◌<◌, ℕ, Bool, true, false, List, ◌++◌, length, None};
+ghost use Rattle.std.specs.List.{list_all};
 ghost use Rattle.xv_model.specs.Job.{Job, IsGoodJob, unit_count, size, trace};
 ghost use Rattle.xv_model.specs.Guest.{Ended, ended, content, reads};
 ghost use Rattle.xv_model.specs.View.{View, UnitHead, number, is_switched, first_view};
 ghost use Rattle.xv_model.specs.Wait.{Event, wait, fits};
-ghost use Rattle.xv_model.specs.Step.{step};
+ghost use Rattle.xv_model.specs.Step.{Entry, step, run};
 ghost use Rattle.xv_model.specs.Outstanding.{outstanding};
 ghost use Rattle.xv_model.specs.Invariant.{IsViewOf};
-ghost use Rattle.xv_model.specs.Contents.{Contents, HoldsContents, first_contents, step_contents, unit_content};
+ghost use Rattle.xv_model.specs.Contents.{Contents, HoldsContents, first_contents, step_contents, contents_after, unit_content};
 ghost use Rattle.xv_base.specs.declared.event.Event.TheVariants.{Switch};
 
 /// A migration begins with contents that hold, whatever stands on the destination.
@@ -19,6 +20,11 @@ pub fn first_contents_hold()
 /// Every step keeps the contents, whether its call fails or not.
 pub fn step_keeps_the_contents()
     ensures { (job : Job) (v : View) (c : Contents) (e : Event) (flag : Bool) → IsGoodJob job → fits job e ≡ true → IsViewOf job v → HoldsContents job v c → HoldsContents job (step job v e flag) (step_contents job v e flag c) }
+{}
+
+/// Every run, of whatever events in whatever order, ends with contents that hold.
+pub fn every_run_holds_the_contents()
+    ensures { (job : Job) (dest : List (List ℕ)) (journal : List Entry) → IsGoodJob job → length dest ≡ unit_count job → list_all (λ e. fits job e.event) journal ≡ true → HoldsContents job (run job journal) (contents_after job (first_view job) (first_contents job dest) journal) }
 {}
 
 /// Where the switchover goes on, nothing is outstanding, though the source looks only at its own part.

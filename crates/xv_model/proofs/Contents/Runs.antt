@@ -1,5 +1,6 @@
 -- A whole journal keeps the contents, where every step keeps the invariant.
-use Rattle.std.specs.Prelude.{◌≡◌, ◌&&◌, Bool, true, List, [], ◌∷◌}
+use Rattle.std.specs.Prelude.{◌≡◌, Bool, true, List, [], ◌∷◌}
+use Rattle.std.specs.List.{list_all}
 use Rattle.std.proofs.lemmas.Bool.{and_parts}
 use Rattle.xv_model.specs.Job.{Job, IsGoodJob}
 use Rattle.xv_model.specs.View.{View}
@@ -11,8 +12,7 @@ use Rattle.xv_model.proofs.Contents.Steps.{contents-step}
 
 -- whether every entry's event is one of the job
 abbrev pub all_fit : Job → List Entry → Bool
-all_fit job [] = true
-all_fit job (e ∷ es) = fits job e.event && all_fit job es
+all_fit job es = list_all (λ e. fits job e.event) es
 
 -- what a journal leaves
 pub record Keeps (job : Job) (v : View) (c : Contents) (journal : List Entry) : Type 0 where
