@@ -1,10 +1,10 @@
 -- Which numbers make a layout, and what is wrong with the others.
-use Rattle.std.specs.Prelude.{◌≡◌, ℕ, suc, ◌+◌, ◌^◌, ◌≤◌, nat_eq, nat_lt, nat_le, Bool, ◌&&◌, not, List, [], ◌∷◌, length, Option, Some, None, if◌then◌else◌}
+use Rattle.std.specs.Prelude.{◌≡◌, ℕ, ◌+◌, ◌^◌, ◌<◌, ◌≤◌, IsTrue, nat_eq, nat_lt, nat_le, Bool, ◌&&◌, not, List, [], ◌∷◌, length, Option, Some, None, if◌then◌else◌}
 use Rattle.std.specs.Int.{is_power_of_two}
 use Rattle.xv_base.specs.declared.unit.DiskShape.{DiskShape}
 use Rattle.xv_base.specs.declared.layout.LayoutFault.{LayoutFault}
 use Rattle.xv_base.specs.declared.layout.LayoutFault.TheVariants.{NoPage, BadSize, TooManyUnits, TooManyBytes}
-use Rattle.xv_base.specs.Units.{Shape, units, all_bytes}
+use Rattle.xv_base.specs.Units.{Shape, units, all_bytes, block_size}
 
 -- the sizes that a unit may have: the powers of two from 16 to 4,096
 abbrev pub is_unit_size : ℕ → Bool
@@ -37,3 +37,12 @@ layout_fault s =
 pub record IsGood (s : Shape) : Type 0 where
   pub no_fault : layout_fault s ≡ None
   pub few_disks : length s.disks ≤ 4
+
+-- the limits that each layout keeps
+pub record IsWithinLimits (s : Shape) : Type 0 where
+  pub some_page : 0 < s.pages
+  pub page_size : IsTrue (is_unit_size s.page_size)
+  pub block_sizes : (k : ℕ) → k < length s.disks → IsTrue (is_unit_size (block_size s.disks k))
+  pub few_disks : length s.disks ≤ 4
+  pub few_units : units s ≤ 2 ^ 20
+  pub few_bytes : all_bytes s ≤ 2 ^ 29

@@ -1,4 +1,6 @@
 pub mod Units
 pub mod Layout
+pub mod Laws
 pub mod Pattern
 pub mod Padded
+pub mod Status

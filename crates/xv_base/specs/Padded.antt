@@ -1,5 +1,5 @@
 -- How a list lies in an array of fixed length: blanks follow it.
-use Rattle.std.specs.Prelude.{◌≡◌, ℕ, ◌-◌, ◌<◌, ◌≤◌, List, ◌++◌, length, replicate, take}
+use Rattle.std.specs.Prelude.{◌≡◌, ℕ, ◌-◌, ◌≤◌, List, ◌++◌, length, replicate, take}
 
 -- the items, and blanks up to a length
 abbrev pub padded_to : {A : Type 0} → A → ℕ → List A → List A

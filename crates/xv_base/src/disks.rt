@@ -8,6 +8,7 @@ use crate::layout::LayoutFault;
 use crate::unit::DiskShape;
 
 /// A block found by its number over all disks.
+#[derive(Clone, Copy)]
 pub struct Spot {
     /// Its disk.
     pub disk: u8,
@@ -49,7 +50,8 @@ pub fn locate(disks: &[DiskShape], block: u32) -> Spot
 /// How many blocks the disks have.
 pub fn count_blocks(disks: &[DiskShape]) -> u64
     requires { length disks.now ≤ 4 }
-    ensures { result ≡ blocks_of disks.now }
+    ensures exactly { result ≡ blocks_of disks.now }
+    ensures bounded { result ≤ 2 ^ 34 }
 {
     let mut total = 0;
     for disk in disks {

@@ -9,16 +9,24 @@
 mod answer;
 mod disks;
 mod event;
+mod laws;
 mod layout;
 mod limits;
 mod operation;
 mod pattern;
+mod status;
+mod text;
 mod unit;
 
 pub use answer::{Cause, Entry, Note, Turn, Why};
 pub use event::{Event, Phase, Probe, Side, Totals};
+pub use laws::{
+    greatest_size_is_had, layouts_keep_limits, units_number_blocks, units_partition_bytes,
+};
 pub use layout::{Layout, LayoutFault};
 pub use limits::{Config, Fault};
 pub use operation::{Ended, Outcome, UnitHead, Waiting};
 pub use pattern::{Init, Pattern, UnitOp};
+pub use status::Status;
+pub use text::{LineBuf, LineFault, LineWhy, TextError};
 pub use unit::{DiskShape, Failed, GuestId, NoMemory, UnitId};

@@ -1,4 +1,4 @@
-use Rattle.std.proofs.Common.{◌≡◌, ℕ, ◌+◌, ◌%◌, ◌++◌, ◌∷◌, [], List, length, take, get_or, add-one, refl, arith}
+use Rattle.std.proofs.Common.{◌≡◌, ℕ, ◌+◌, ◌%◌, ◌++◌, ◌∷◌, [], List, length, get_or, add-one, refl, arith}
 use Rattle.std.proofs.lemmas.List.{take_more_set}
 use Rattle.xv_base.specs.Pattern.{repeated}
 use Rattle.xv_base.proofs.pattern.repeat.Goals as goal

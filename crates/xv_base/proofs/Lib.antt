@@ -1,0 +1,5 @@
+pub mod Within
+pub mod Sums
+pub mod Blocks
+pub mod Partition
+pub mod Pads
