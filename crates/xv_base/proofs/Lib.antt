@@ -3,3 +3,4 @@ pub mod Sums
 pub mod Blocks
 pub mod Partition
 pub mod Pads
+pub mod Hexes

@@ -4,3 +4,4 @@ pub mod Laws
 pub mod Pattern
 pub mod Padded
 pub mod Status
+pub mod Hex

@@ -1,6 +1,7 @@
 //! What is wrong with a text, and a line that is being written.
 
-ghost use Rattle.std.specs.Prelude.{◌≡◌, ◌+◌, ◌<◌, ◌≤◌, [], ◌∷◌, ◌++◌, length, decimal};
+ghost use Rattle.std.specs.Prelude.{◌≡◌, ◌+◌, ◌*◌, ◌<◌, ◌≤◌, [], ◌∷◌, ◌++◌, length, decimal};
+ghost use Rattle.xv_base.specs.Hex.{hex, hex_digit};
 
 use std::marker::Model;
 
@@ -109,11 +110,32 @@ impl LineBuf {
         ensures exactly { self.new ≡ self.old ++ decimal n }
         ensures few { length self.new ≤ length self.old + 10 }
     {
+        self.push_digits(n as u64);
+    }
+
+    /// Appends a number of 64 bits in decimal digits, where there is room for twenty.
+    pub fn push_long(&mut self, n: u64)
+        requires { length self.old + 20 ≤ 256 }
+        ensures exactly { self.new ≡ self.old ++ decimal n }
+        ensures few { length self.new ≤ length self.old + 20 }
+    {
         self.push_digits(n);
     }
 
+    /// Appends bytes in hexadecimal digits, two a byte, for which there is room.
+    pub fn push_hex(&mut self, bytes: &[u8])
+        requires { length self.old + 2 * length bytes.now ≤ 256 }
+        ensures exactly { self.new ≡ self.old ++ hex bytes.now }
+        ensures long { length self.new ≡ length self.old + 2 * length bytes.now }
+    {
+        for byte in bytes {
+            self.push(hex_digit(*byte / 16));
+            self.push(hex_digit(*byte % 16));
+        }
+    }
+
     /// Appends the digits of a number, for which there is room.
-    fn push_digits(&mut self, n: u32)
+    fn push_digits(&mut self, n: u64)
         requires { length self.old + length (decimal n) ≤ 256 }
         ensures { self.new ≡ self.old ++ decimal n }
     {
@@ -122,4 +144,12 @@ impl LineBuf {
         }
         self.push(b'0' + (n % 10) as u8);
     }
+}
+
+/// The hexadecimal digit of a number below 16.
+fn hex_digit(n: u8) -> u8
+    requires { n < 16 }
+    ensures { result ≡ hex_digit n }
+{
+    if n < 10 { b'0' + n } else { b'a' - 10 + n }
 }
