@@ -19,3 +19,5 @@ pub mod Quiet
 pub mod First
 pub mod Kept
 pub mod Contents
+pub mod Window
+pub mod Able
