@@ -21,3 +21,6 @@ pub mod Kept
 pub mod Contents
 pub mod Window
 pub mod Able
+pub mod Left
+pub mod NeverStuck
+pub mod Drivers
