@@ -69,22 +69,22 @@ abbrev joined_six : List Event → List Event → List Event → List Event → 
 joined_six a b c d e f = a ++ b ++ c ++ d ++ e ++ f
 
 in_first : (test : Event → Bool) (a b c d e f : List Event) → list_any test a ≡ true → list_any test (joined_six a b c d e f) ≡ true
-in_first test a b c d e f h = in_left test a (b ++ c ++ d ++ e ++ f) h
+in_first test a b c d e f h = in_left test (a ++ b ++ c ++ d ++ e) f (in_left test (a ++ b ++ c ++ d) e (in_left test (a ++ b ++ c) d (in_left test (a ++ b) c (in_left test a b h))))
 
 in_second : (test : Event → Bool) (a b c d e f : List Event) → list_any test b ≡ true → list_any test (joined_six a b c d e f) ≡ true
-in_second test a b c d e f h = in_right test a (b ++ c ++ d ++ e ++ f) (in_left test b (c ++ d ++ e ++ f) h)
+in_second test a b c d e f h = in_left test (a ++ b ++ c ++ d ++ e) f (in_left test (a ++ b ++ c ++ d) e (in_left test (a ++ b ++ c) d (in_left test (a ++ b) c (in_right test a b h))))
 
 in_third : (test : Event → Bool) (a b c d e f : List Event) → list_any test c ≡ true → list_any test (joined_six a b c d e f) ≡ true
-in_third test a b c d e f h = in_right test a (b ++ c ++ d ++ e ++ f) (in_right test b (c ++ d ++ e ++ f) (in_left test c (d ++ e ++ f) h))
+in_third test a b c d e f h = in_left test (a ++ b ++ c ++ d ++ e) f (in_left test (a ++ b ++ c ++ d) e (in_left test (a ++ b ++ c) d (in_right test (a ++ b) c h)))
 
 in_fourth : (test : Event → Bool) (a b c d e f : List Event) → list_any test d ≡ true → list_any test (joined_six a b c d e f) ≡ true
-in_fourth test a b c d e f h = in_right test a (b ++ c ++ d ++ e ++ f) (in_right test b (c ++ d ++ e ++ f) (in_right test c (d ++ e ++ f) (in_left test d (e ++ f) h)))
+in_fourth test a b c d e f h = in_left test (a ++ b ++ c ++ d ++ e) f (in_left test (a ++ b ++ c ++ d) e (in_right test (a ++ b ++ c) d h))
 
 in_fifth : (test : Event → Bool) (a b c d e f : List Event) → list_any test e ≡ true → list_any test (joined_six a b c d e f) ≡ true
-in_fifth test a b c d e f h = in_right test a (b ++ c ++ d ++ e ++ f) (in_right test b (c ++ d ++ e ++ f) (in_right test c (d ++ e ++ f) (in_right test d (e ++ f) (in_left test e f h))))
+in_fifth test a b c d e f h = in_left test (a ++ b ++ c ++ d ++ e) f (in_right test (a ++ b ++ c ++ d) e h)
 
 in_sixth : (test : Event → Bool) (a b c d e f : List Event) → list_any test f ≡ true → list_any test (joined_six a b c d e f) ≡ true
-in_sixth test a b c d e f h = in_right test a (b ++ c ++ d ++ e ++ f) (in_right test b (c ++ d ++ e ++ f) (in_right test c (d ++ e ++ f) (in_right test d (e ++ f) (in_right test e f h))))
+in_sixth test a b c d e f h = in_right test (a ++ b ++ c ++ d ++ e) f h
 
 -- each event of the job is in the driver's list
 guest_in : (test : Event → Bool) (job : Job) (g : ℕ) → g < guest_count job → test (Guest (record { 0 = g })) ≡ true → list_any test (driver_events job) ≡ true
@@ -132,6 +132,10 @@ event_in test job Cancel f t = end_in test job (or_right (test Apply) _ (or_righ
 all_joined : (test : Event → Bool) (xs ys : List Event) → list_all test xs ≡ true → list_all test ys ≡ true → list_all test (xs ++ ys) ≡ true
 all_joined test xs ys e f = list_all-append test xs ys ∙ and_from (list_all test xs) (list_all test ys) e f
 
+six_joined : (test : Event → Bool) (a b c d e f : List Event) → list_all test a ≡ true → list_all test b ≡ true → list_all test c ≡ true → list_all test d ≡ true → list_all test e ≡ true → list_all test f ≡ true → list_all test (joined_six a b c d e f) ≡ true
+six_joined test a b c d e f g h i j k l =
+    all_joined test (a ++ b ++ c ++ d ++ e) f (all_joined test (a ++ b ++ c ++ d) e (all_joined test (a ++ b ++ c) d (all_joined test (a ++ b) c (all_joined test a b g h) i) j) k) l
+
 disk_events_fit : (job : Job) (d : ℕ) → d < length job.shape.disks → list_all (fits job) (disk_events d) ≡ true
 disk_events_fit job d lt = rw (lt-ltb d (length job.shape.disks) lt) refl
 
@@ -141,11 +145,7 @@ all_fit job =
     let disks = below_all (fits job) (length job.shape.disks) disk_events (disk_events_fit job) in
     let sends = below_all (fits job) job.config.streams (λ k. Send k ∷ []) (λ s lt. rw (lt-ltb s job.config.streams lt) refl) in
     let deliveries = below_all (fits job) job.config.streams (λ k. Deliver k ∷ []) (λ s lt. rw (lt-ltb s job.config.streams lt) refl) in
-    all_joined (fits job) (guests_of job) _ guests
-    (all_joined (fits job) (disks_of job) _ disks
-    (all_joined (fits job) rounds_of _ refl
-    (all_joined (fits job) (sends_of job) _ sends
-    (all_joined (fits job) (deliveries_of job) ends_of deliveries refl))))
+    six_joined (fits job) (guests_of job) (disks_of job) rounds_of (sends_of job) (deliveries_of job) ends_of guests disks refl sends deliveries refl
 
 -- turning the list changes neither
 or_turned : (a b : Bool) → (a || b) ≡ true → (b || a) ≡ true
