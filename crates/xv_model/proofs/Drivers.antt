@@ -1,5 +1,5 @@
 -- The driver's order finds an event that goes on wherever there is one, and none where the run is finished.
-use Rattle.std.specs.Prelude.{◌≡◌, ◌⊎◌, ◌≤◌, ◌<◌, ℕ, zero, suc, ◌+◌, ◌%◌, ◌&&◌, ◌||◌, not, nat_le, Bool, true, false, List, [], ◌∷◌, ◌++◌, length, take, drop, Option, Some, None, is_none, if◌then◌else◌}
+use Rattle.std.specs.Prelude.{◌≡◌, ◌⊎◌, ◌≤◌, ◌<◌, ℕ, zero, suc, ◌+◌, ◌%◌, ◌&&◌, ◌||◌, not, nat_le, Bool, true, false, List, [], ◌∷◌, ◌++◌, length, take, drop, Option, Some, None, is_none, IsSomeAnd, if◌then◌else◌}
 use Rattle.std.specs.List.{list_any, list_all}
 use Rattle.std.proofs.Common.{arith, refl, ap, sym, ◌∙◌, subst, inl, inr, true≢false, take-append-drop}
 use Rattle.std.proofs.lemmas.Bool.{cases_Bool, cases_eq, cases_lt, and_parts, and_from, or_left, or_right, or_cases, ltb-true, lt-ltb, le-leb}
@@ -194,3 +194,8 @@ pub driver_finds : (job : Job) (v : View) (n : ℕ) → IsGoodJob job → IsView
 driver_finds job v n good inv unfinished =
     let place = n % length (driver_events job) in
     finds job v (from_place (driver_events job) place) (all_from_place (fits job) (driver_events job) place (all_fit job)) (any_from_place (goes_on job v) (driver_events job) place (some_acts_any job v (never_stuck job v good inv unfinished)))
+
+pub driver_some : (job : Job) (v : View) (n : ℕ) → IsGoodJob job → IsViewOf job v → is_finished job v ≡ false → IsSomeAnd (next_event job v n) (λ e. (fits job e ≡ true) × (wait job v e false ≡ None))
+driver_some job v n good inv unfinished =
+    let f = driver_finds job v n good inv unfinished in
+    subst (λ (o : Option Event). IsSomeAnd o (λ e. (fits job e ≡ true) × (wait job v e false ≡ None))) (sym f.is) (f.fitting, f.acts)

@@ -24,3 +24,6 @@ pub mod Able
 pub mod Left
 pub mod NeverStuck
 pub mod Drivers
+pub mod Finished
+pub mod OneMore
+pub mod NeverSwitched

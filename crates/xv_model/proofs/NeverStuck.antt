@@ -23,14 +23,14 @@ running_not_stunned Switched e = absurd (cc)
 running_not_stunned Cancelled e = absurd (cc)
 running_not_stunned Failed e = absurd (cc)
 
-still_not_running : (p : Phase) → is_live p ≡ false → is_running p ≡ false
+pub still_not_running : (p : Phase) → is_live p ≡ false → is_running p ≡ false
 still_not_running Running e = absurd (cc)
 still_not_running Stunned e = absurd (cc)
 still_not_running Switched e = refl
 still_not_running Cancelled e = refl
 still_not_running Failed e = refl
 
-still_not_stunned : (p : Phase) → is_live p ≡ false → is_stunned p ≡ false
+pub still_not_stunned : (p : Phase) → is_live p ≡ false → is_stunned p ≡ false
 still_not_stunned Running e = absurd (cc)
 still_not_stunned Stunned e = absurd (cc)
 still_not_stunned Switched e = refl
