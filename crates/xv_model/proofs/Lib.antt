@@ -27,3 +27,4 @@ pub mod Drivers
 pub mod Finished
 pub mod OneMore
 pub mod NeverSwitched
+pub mod GoodJobs
