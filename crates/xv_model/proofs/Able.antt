@@ -1,14 +1,13 @@
 -- When each event acts, from plain facts; and what some event's acting means.
-use Rattle.std.specs.Prelude.{◌≡◌, ◌≤◌, ◌<◌, ℕ, zero, suc, ◌-◌, ◌==◌, ◌&&◌, ◌||◌, not, nat_lt, nat_le, Bool, true, false, length, Option, None, is_some}
+use Rattle.std.specs.Prelude.{◌≡◌, ◌≤◌, ◌<◌, ℕ, ◌==◌, ◌&&◌, ◌||◌, not, nat_lt, nat_le, Bool, true, false, length, Option, None}
 use Rattle.std.proofs.Common.{arith, refl, inl, inr}
-use Rattle.std.proofs.lemmas.Bool.{and_left, and_right, and_from, or_from, or_right, cases_lt, cases_eq, lt-ltb, le-ltb, lt-leb, le-leb, eq-eqb, ne_eqb, not_from_true}
-use Rattle.xv_model.specs.Job.{Job, UnitOp, IsGoodJob, block_of, blocks, trace, guest_count}
+use Rattle.std.proofs.lemmas.Bool.{and_left, and_right, and_from, or_from, or_right, cases_lt, lt-ltb, le-ltb, lt-leb, le-leb, eq-eqb, ne_eqb, not_from_true}
+use Rattle.xv_model.specs.Job.{Job, UnitOp, block_of, blocks, trace, guest_count}
 use Rattle.xv_model.specs.Guest.{ended}
 use Rattle.xv_model.specs.View.{View, disk, front, is_empty, is_empty_set, is_running, is_stunned, is_live, is_inside, is_copied, all_copied, queues_empty, in_queue, members, stream, is_ready}
-use Rattle.xv_model.specs.Wait.{Event, Why, aim, is_mirror, next_operation, next_aim, has_cancel, reaches, is_before, cancel_due, is_full, room, unless, may_begin_round, may_stun, may_switch, wait, fits}
+use Rattle.xv_model.specs.Wait.{Event, Why, aim, is_mirror, next_operation, next_aim, has_cancel, is_before, cancel_due, is_full, room, unless, may_begin_round, may_stun, may_switch, wait, fits}
 use Rattle.xv_base.specs.declared.answer.Why.TheVariants.{TraceEnd, InQueue, CancelDue, Stunned as StunWait, Throttled, NoCredit, NothingThere, NotNow}
 use Rattle.xv_base.specs.declared.event.Event.TheVariants.{Guest, Begin, Read, Advance, Release, Round, Page, Send, Deliver, Apply, Ack, Credit, Stun, Switch, Cancel}
-use Rattle.xv_model.proofs.GoesOn.{running_is_live}
 
 -- some event of the job goes on
 pub record SomeActs (job : Job) (v : View) : Type 0 where
@@ -49,7 +48,7 @@ guest_acts job v g there more queue due stunned room = record {
   event = Guest (record { 0 = g });
   fitting = lt-ltb g (guest_count job) there;
   acts = five_pass (nat_le (length (trace job g)) (ended v.history g)) (in_queue v.disks g) (cancel_due job v) (is_stunned v.phase) (is_mirror (next_aim job v g) && is_full job v) TraceEnd InQueue CancelDue StunWait Throttled
-    (lt-leb (length (trace job g)) (ended v.history g) more) queue due stunned room;
+      (lt-leb (length (trace job g)) (ended v.history g) more) queue due stunned room;
 }
 
 -- a guest that may write where the outbox has room
@@ -68,8 +67,8 @@ begin_acts job v d there running copied region queue = record {
   event = Begin d;
   fitting = lt-ltb d (length job.shape.disks) there;
   acts = two_pass (not (is_running v.phase)) (is_copied (blocks job.shape.disks d) (disk v d) || not ((disk v d).region == 0) || not (is_empty (disk v d).queue)) NotNow NotNow
-    (not_from_true _ running)
-    (none_of_three (is_copied (blocks job.shape.disks d) (disk v d)) (not ((disk v d).region == 0)) (not (is_empty (disk v d).queue)) copied (not_from_true _ (eq-eqb (disk v d).region 0 region)) (not_from_true _ queue));
+      (not_from_true _ running)
+      (none_of_three (is_copied (blocks job.shape.disks d) (disk v d)) (not ((disk v d).region == 0)) (not (is_empty (disk v d).queue)) copied (not_from_true _ (eq-eqb (disk v d).region 0 region)) (not_from_true _ queue));
 }
 
 pub read_acts : (job : Job) (v : View) (d : ℕ) → d < length job.shape.disks → is_running v.phase ≡ true → (disk v d).got < (disk v d).region → SomeActs job v
@@ -84,9 +83,9 @@ advance_acts job v d there running some all fitting = record {
   event = Advance d;
   fitting = lt-ltb d (length job.shape.disks) there;
   acts = three_pass (not (is_running v.phase)) (((disk v d).region == 0) || nat_lt (disk v d).got (disk v d).region) (nat_lt (room job v) (disk v d).region) NotNow NotNow Throttled
-    (not_from_true _ running)
-    (or_from ((disk v d).region == 0) (nat_lt (disk v d).got (disk v d).region) (ne_eqb (disk v d).region 0 (omega (arith, some))) (le-ltb (disk v d).got (disk v d).region all))
-    (le-ltb (room job v) (disk v d).region fitting);
+      (not_from_true _ running)
+      (or_from ((disk v d).region == 0) (nat_lt (disk v d).got (disk v d).region) (ne_eqb (disk v d).region 0 (omega (arith, some))) (le-ltb (disk v d).got (disk v d).region all))
+      (le-ltb (room job v) (disk v d).region fitting);
 }
 
 -- a region can be read on or given up as behind, where the outbox has room for it
@@ -121,7 +120,7 @@ round_acts job v running none copied more = record {
   event = Round;
   fitting = refl;
   acts = two_pass (not (is_running v.phase)) (not (may_begin_round job v)) NotNow NotNow (not_from_true _ running)
-    (not_from_true _ (and_from (is_empty_set v.to_send) _ none (rw copied (lt-ltb v.rounds job.config.rounds more))));
+      (not_from_true _ (and_from (is_empty_set v.to_send) _ none (rw copied (lt-ltb v.rounds job.config.rounds more))));
 }
 
 pub send_acts : (job : Job) (v : View) (s : ℕ) → s < job.config.streams → is_live v.phase ≡ true → is_empty v.outbox.messages ≡ false → 0 < v.credit → SomeActs job v
@@ -166,7 +165,7 @@ stun_acts job v running before copied queues none some last =
       event = Stun;
       fitting = refl;
       acts = three_pass (not (is_running v.phase)) (is_before job.config.cancel (length v.history)) (not (may_stun job v)) NotNow CancelDue NotNow (not_from_true _ running) before
-        (not_from_true _ (all_five (all_copied job v) (queues_empty v.disks) (is_empty_set v.to_send) (nat_lt 0 v.rounds) (nat_le (members v.dirty) job.config.dirty || nat_le job.config.rounds v.rounds) copied queues none (lt-ltb 0 v.rounds some) few_or_last));
+          (not_from_true _ (all_five (all_copied job v) (queues_empty v.disks) (is_empty_set v.to_send) (nat_lt 0 v.rounds) (nat_le (members v.dirty) job.config.dirty || nat_le job.config.rounds v.rounds) copied queues none (lt-ltb 0 v.rounds some) few_or_last));
     }
 
 pub switch_acts : (job : Job) (v : View) → is_stunned v.phase ≡ true → has_cancel job ≡ false → is_empty_set v.to_send ≡ true → is_empty v.outbox.messages ≡ true → job.config.credit ≤ v.credit → SomeActs job v
@@ -174,7 +173,7 @@ switch_acts job v stunned cancel none sent back = record {
   event = Switch;
   fitting = refl;
   acts = three_pass (not (is_stunned v.phase)) (has_cancel job) (not (may_switch job v)) NotNow CancelDue NotNow (not_from_true _ stunned) cancel
-    (not_from_true _ (all_three (is_empty_set v.to_send) (is_empty v.outbox.messages) (nat_le job.config.credit v.credit) none sent (le-leb job.config.credit v.credit back)));
+      (not_from_true _ (all_three (is_empty_set v.to_send) (is_empty v.outbox.messages) (nat_le job.config.credit v.credit) none sent (le-leb job.config.credit v.credit back)));
 }
 
 pub cancel_acts : (job : Job) (v : View) → cancel_due job v ≡ true → SomeActs job v

@@ -1,19 +1,17 @@
 -- The driver's order finds an event that goes on wherever there is one, and none where the run is finished.
-use Rattle.std.specs.Prelude.{◌≡◌, ◌⊎◌, ◌≤◌, ◌<◌, ℕ, zero, suc, ◌+◌, ◌%◌, ◌&&◌, ◌||◌, not, nat_le, Bool, true, false, List, [], ◌∷◌, ◌++◌, length, take, drop, Option, Some, None, is_none, IsSomeAnd, if◌then◌else◌}
+use Rattle.std.specs.Prelude.{◌≡◌, ◌⊎◌, ◌<◌, ℕ, zero, suc, ◌%◌, ◌&&◌, ◌||◌, Bool, true, false, List, [], ◌∷◌, ◌++◌, length, take, drop, Option, Some, None, is_none, IsSomeAnd, if◌then◌else◌}
 use Rattle.std.specs.List.{list_any, list_all}
-use Rattle.std.proofs.Common.{arith, refl, ap, sym, ◌∙◌, subst, inl, inr, true≢false, take-append-drop}
-use Rattle.std.proofs.lemmas.Bool.{cases_Bool, cases_eq, cases_lt, and_parts, and_from, or_left, or_right, or_cases, ltb-true, lt-ltb, le-leb}
+use Rattle.std.proofs.Common.{arith, refl, ap, sym, ◌∙◌, subst, inl, inr, take-append-drop}
+use Rattle.std.proofs.lemmas.Bool.{cases_eq, and_parts, and_from, or_left, or_right, ltb-true, lt-ltb}
 use Rattle.std.proofs.lemmas.List.Folds.{list_any-append, list_all-append}
-use Rattle.xv_model.specs.Job.{Job, IsGoodJob, guest_count, trace}
-use Rattle.xv_model.specs.Guest.{ended}
-use Rattle.xv_model.specs.View.{View, disk, is_live, is_running, is_stunned, is_empty, queues_empty, in_queue}
-use Rattle.xv_model.specs.Wait.{Event, Why, wait, fits, unless, cancel_due}
+use Rattle.xv_model.specs.Job.{Job, IsGoodJob, guest_count}
+use Rattle.xv_model.specs.View.{View}
+use Rattle.xv_model.specs.Wait.{Event, Why, wait, fits}
 use Rattle.xv_model.specs.Invariant.{IsViewOf}
-use Rattle.xv_model.specs.Work.{is_finished, all_ended_from}
+use Rattle.xv_model.specs.Work.{is_finished}
 use Rattle.xv_model.specs.Driver.{for_each_below, driver_events, first_able, from_place, next_event}
 use Rattle.xv_base.specs.declared.event.Event.TheVariants.{Guest, Begin, Read, Advance, Release, Round, Page, Send, Deliver, Apply, Ack, Credit, Stun, Switch, Cancel}
 use Rattle.xv_model.proofs.Able.{SomeActs}
-use Rattle.xv_model.proofs.Left.{guest_ended, queue_is_empty}
 use Rattle.xv_model.proofs.NeverStuck.{never_stuck}
 
 -- whether an event goes on

@@ -1,11 +1,11 @@
 -- Where the run is finished every event waits, and so the driver finds none; and it finds none only there.
-use Rattle.std.specs.Prelude.{◌≡◌, ◌≤◌, ℕ, ◌%◌, ◌&&◌, ◌||◌, not, nat_le, Bool, true, false, List, [], ◌∷◌, length, Option, Some, None, is_none, is_some, IsSomeAnd, if◌then◌else◌}
-use Rattle.std.proofs.Common.{arith, refl, ap, sym, ◌∙◌, inl, inr, true≢false}
-use Rattle.std.proofs.lemmas.Bool.{cases_Bool, and_parts, and_right, le-leb, not-true}
+use Rattle.std.specs.Prelude.{◌≡◌, ℕ, ◌%◌, ◌&&◌, not, nat_le, Bool, true, false, List, [], ◌∷◌, length, Option, Some, None, is_none, is_some}
+use Rattle.std.proofs.Common.{refl, ap, inl, inr}
+use Rattle.std.proofs.lemmas.Bool.{cases_Bool, and_right, le-leb}
 use Rattle.xv_model.specs.Job.{Job, IsGoodJob, trace}
 use Rattle.xv_model.specs.Guest.{ended}
-use Rattle.xv_model.specs.View.{View, Phase, disk, is_live, is_running, is_stunned, is_empty, queues_empty}
-use Rattle.xv_model.specs.Wait.{Event, Why, wait, fits, unless, reaches, cancel_due}
+use Rattle.xv_model.specs.View.{View, disk, is_live, is_running, is_stunned, is_empty, queues_empty}
+use Rattle.xv_model.specs.Wait.{Event, Why, wait, unless, reaches, cancel_due}
 use Rattle.xv_model.specs.Invariant.{IsViewOf}
 use Rattle.xv_model.specs.Work.{is_finished, all_ended_from}
 use Rattle.xv_model.specs.Driver.{driver_events, first_able, from_place, next_event}

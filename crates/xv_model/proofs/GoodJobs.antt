@@ -1,7 +1,7 @@
 -- Worked migrations that meet the premises of the laws.
-use Rattle.std.specs.Prelude.{◌≡◌, ◌≤◌, ◌<◌, ℕ, zero, suc, ◌+◌, List, [], ◌∷◌, length}
+use Rattle.std.specs.Prelude.{◌≤◌, ◌<◌, ℕ, zero, suc, length}
 use Rattle.std.proofs.Common.{arith, refl, inl, inr}
-use Rattle.xv_model.specs.Job.{Job, IsGoodJob, IsLegal, trace, operation, blocks}
+use Rattle.xv_model.specs.Job.{IsGoodJob, IsLegal, trace, operation, blocks}
 use Rattle.xv_model.specs.Worked.FirstPath.{first_path_job}
 use Rattle.xv_model.specs.Worked.Groups.{groups_job}
 use Rattle.xv_model.specs.Worked.Throttling.{throttling_job}
@@ -125,4 +125,3 @@ cancelled-good = record {
   fault_lines = omega arith;
   fault_numbers = refl;
 }
-

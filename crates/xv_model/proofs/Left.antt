@@ -1,11 +1,10 @@
 -- What is left to do: a guest with operations to come, a queue that is not empty, a disk that is not copied.
 use Rattle.std.specs.Prelude.{◌≡◌, ◌≤◌, ◌<◌, ℕ, zero, suc, ◌+◌, ◌==◌, ◌&&◌, nat_le, Bool, true, false, List, [], ◌∷◌, length, map, get_or, sum_by, if◌then◌else◌}
-use Rattle.std.proofs.Common.{arith, refl, ap, sym, ◌∙◌, subst, zero-add, inl, inr}
-use Rattle.std.proofs.lemmas.Bool.{cases_Bool, cases_lt, cases_eq, and_parts, and_from, or_from, eq-eqb, ne_eqb, leb-true, leb-false, le-leb}
-use Rattle.std.proofs.lemmas.List.{get_or_past}
+use Rattle.std.proofs.Common.{arith, refl, subst, zero-add, inl, inr}
+use Rattle.std.proofs.lemmas.Bool.{cases_Bool, cases_eq, and_parts, or_from, eq-eqb, ne_eqb, leb-true, leb-false}
 use Rattle.std.proofs.lemmas.List.Sums.{sum_by-cons}
 use Rattle.xv_base.specs.declared.unit.DiskShape.{DiskShape}
-use Rattle.xv_model.specs.Job.{Job, UnitOp, blocks, trace, operation_count, guest_count}
+use Rattle.xv_model.specs.Job.{Job, UnitOp, blocks, trace, operation_count}
 use Rattle.xv_model.specs.Guest.{Ended, ended}
 use Rattle.xv_model.specs.View.{Disk, Waiting, no_disk, is_empty, is_copied, all_copied_by, queues_empty, waits_for, in_queue}
 use Rattle.xv_model.specs.Work.{all_ended_from}

@@ -1,16 +1,16 @@
 -- Never stuck: in every view that is not finished some event goes on.
-use Rattle.std.specs.Prelude.{◌≡◌, ◌≢◌, ◌⊎◌, ◌≤◌, ◌<◌, ℕ, zero, suc, ◌+◌, ◌==◌, ◌&&◌, not, nat_lt, nat_le, Bool, true, false, sum, is_some, List, [], ◌∷◌, length, get_or, Option, Some, None, IfSome, if◌then◌else◌}
+use Rattle.std.specs.Prelude.{◌≡◌, ◌⊎◌, ◌≤◌, ◌<◌, ℕ, zero, suc, ◌+◌, ◌&&◌, not, nat_lt, nat_le, Bool, true, false, sum, is_some, List, [], ◌∷◌, length, get_or, Option, Some, None, IfSome}
 use Rattle.std.proofs.Common.{arith, refl, ap, sym, ◌∙◌, subst, inl, inr, true≢false}
-use Rattle.std.proofs.lemmas.Bool.{cases_Bool, cases_lt, cases_eq, and_parts, and_from, and_left, and_right, ltb-true, ltb-false, leb-true, le-ltb, eq-eqb}
-use Rattle.xv_model.specs.Job.{Job, IsGoodJob, disk_of, block_of, blocks, operation_count}
-use Rattle.xv_model.specs.View.{View, Disk, Hold, UnitHead, Phase, disk, front, no_message, no_disk, number, is_empty, is_empty_set, is_running, is_stunned, is_live, is_inside, is_copied, all_copied, queues_empty, in_queue, stream, is_next, first_next, is_ready}
+use Rattle.std.proofs.lemmas.Bool.{cases_Bool, cases_lt, and_parts, and_from, and_right, ltb-true, ltb-false, leb-true, eq-eqb}
+use Rattle.xv_model.specs.Job.{Job, IsGoodJob, block_of, operation_count}
+use Rattle.xv_model.specs.View.{View, Disk, Hold, UnitHead, Phase, disk, front, no_message, number, is_empty, is_empty_set, is_running, is_stunned, is_live, is_inside, all_copied, queues_empty, is_next, first_next, is_ready}
 use Rattle.xv_model.specs.Wait.{has_cancel, reaches, is_before, cancel_due, room}
 use Rattle.xv_base.specs.declared.event.Phase.TheVariants.{Running, Stunned, Switched, Cancelled, Failed}
 use Rattle.xv_model.specs.Outstanding.{count, count_groups, count_streams, on_the_way, outstanding, any, is_version}
 use Rattle.xv_model.specs.Invariant.{IsViewOf, CancelHolds}
 use Rattle.xv_model.specs.Work.{all_ended_from, is_finished}
 use Rattle.xv_model.proofs.Bags.{count-place, place-count, is_version-from, is_version-unit, is_version-number, version-above, version-within}
-use Rattle.xv_model.proofs.GoesOn.{empty-nil, some-length, running_is_live, stunned_is_live, live_is_running}
+use Rattle.xv_model.proofs.GoesOn.{empty-nil, stunned_is_live, live_is_running}
 use Rattle.xv_model.proofs.Points.CreditSteps.{count-any}
 use Rattle.xv_model.proofs.Able.{SomeActs, guest_acts_with_room, guest_acts_alone, begin_acts, region_acts, release_acts_alone, release_acts_with_room, page_acts, round_acts, send_acts, deliver_acts, apply_acts, ack_acts, credit_acts, stun_acts, switch_acts, cancel_acts}
 use Rattle.xv_model.proofs.Left.{SomeQueue, some_queue, in_no_queue, queue_is_empty, SomeUncopied, some_uncopied, SomeGuest, some_guest, has_more, not_all_ended}

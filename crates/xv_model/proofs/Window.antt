@@ -1,13 +1,13 @@
 -- The window: what the credit and the limit of the outbox leave room for.
 use Rattle.std.specs.Prelude.{◌≡◌, ◌≤◌, ◌<◌, ℕ, zero, suc, ◌+◌, ◌==◌, ◌&&◌, not, nat_lt, Bool, true, false, List, [], ◌∷◌, length, sum, get_or, None, if◌then◌else◌}
-use Rattle.std.proofs.Common.{arith, refl}
-use Rattle.std.proofs.lemmas.Bool.{and_parts, eqb-true, ltb-true}
+use Rattle.std.proofs.Common.{arith, refl, inl, inr}
+use Rattle.std.proofs.lemmas.Bool.{cases_lt, and_parts, eqb-true, ltb-true}
 use Rattle.std.proofs.lemmas.List.Sums.{sum_by-cons}
 use Rattle.xv_model.specs.Job.{Job, IsGoodJob, unit_count}
 use Rattle.xv_model.specs.View.{View, UnitHead, number, no_message, stream, front_group}
 use Rattle.xv_model.specs.Wait.{wait}
 use Rattle.xv_model.specs.Effect.{batch}
-use Rattle.xv_model.specs.Outstanding.{count, count_groups, count_streams, on_the_way, outstanding, any, is_version}
+use Rattle.xv_model.specs.Outstanding.{count, count_streams, on_the_way, outstanding, any, is_version, is_message}
 use Rattle.xv_model.specs.Invariant.{IsViewOf, is_good_group, are_good_groups}
 use Rattle.xv_base.specs.declared.event.Event.TheVariants.{Send, Deliver, Apply, Ack, Credit}
 use Rattle.xv_model.proofs.Bags.{count_groups-drop, place-count, is_version-from, version-above, version-within, version-unit, ready-on_the_way}
@@ -121,3 +121,24 @@ pub apply-fits : (job : Job) (v : View) (flag : Bool) → IsViewOf job v → wai
 apply-fits job v flag inv w =
     let way = ready-on_the_way v (apply_goes job v flag w).ready any refl in
     omega (arith, way, inv.credit.sums)
+
+-- every outstanding message is of a unit that is there, and of a version from the one applied up to the one issued
+pub outstanding-unit : (job : Job) (v : View) (unit version : ℕ) → IsViewOf job v → 0 < outstanding v (is_version unit version) → unit < unit_count job
+outstanding-unit job v unit version inv some =
+    let k = version-unit (outstanding v) v.outbox.issued v.hold.applied unit version inv.versions some in
+    omega (arith, inv.lists.issued)
+
+pub outstanding-above : (job : Job) (v : View) (unit version : ℕ) → IsViewOf job v → 0 < outstanding v (is_version unit version) → number v.hold.applied unit < version
+outstanding-above job v unit version inv some = version-above (outstanding v) v.outbox.issued v.hold.applied unit version inv.versions some
+
+pub outstanding-within : (job : Job) (v : View) (unit version : ℕ) → IsViewOf job v → 0 < outstanding v (is_version unit version) → version ≤ number v.outbox.issued unit
+outstanding-within job v unit version inv some = version-within (outstanding v) v.outbox.issued v.hold.applied unit version inv.versions some
+
+pub outstanding-once : (job : Job) (v : View) (unit version : ℕ) → IsViewOf job v → outstanding v (is_version unit version) ≤ 1
+outstanding-once job v unit version inv = elim (cases_lt 0 (outstanding v (is_version unit version))) [
+  | inl some ↦ omega (arith, inv.versions.once unit version (outstanding-above job v unit version inv some) (outstanding-within job v unit version inv some))
+  | inr none ↦ omega (arith, none)
+]
+
+pub outstanding-at : (job : Job) (v : View) (unit version at : ℕ) → IsViewOf job v → 0 < outstanding v (is_message unit version at) → at ≤ length v.history
+outstanding-at job v unit version at inv some = omega (arith, inv.times.to_mark unit version at some, inv.history.mark_within)

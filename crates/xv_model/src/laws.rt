@@ -6,7 +6,7 @@ ghost use Rattle.xv_model.specs.Job.{Job, IsGoodJob, unit_count};
 ghost use Rattle.xv_model.specs.View.{View, first_view, number, no_message, front_group, is_switched};
 ghost use Rattle.xv_model.specs.Wait.{Event, wait, fits, has_cancel};
 ghost use Rattle.xv_model.specs.Effect.{batch};
-ghost use Rattle.xv_model.specs.Outstanding.{any, count, count_streams, on_the_way, is_version};
+ghost use Rattle.xv_model.specs.Outstanding.{any, count, count_streams, on_the_way, outstanding, is_version, is_message};
 ghost use Rattle.xv_model.specs.Step.{Entry, step, run, turn, call, calls, is_flagged, same_turn, is_run, same_truth, is_planned, is_faithful};
 ghost use Rattle.xv_model.specs.Invariant.{IsViewOf};
 ghost use Rattle.xv_model.specs.Guest.{content};
@@ -35,6 +35,16 @@ pub fn window_holds()
     ensures on_the_way { (job : Job) (v : View) → IsViewOf job v → on_the_way v any ≤ job.config.credit }
     ensures outbox { (job : Job) (v : View) → IsViewOf job v → length v.outbox.messages ≤ job.config.outbox }
     ensures acknowledgements { (job : Job) (v : View) → IsViewOf job v → length v.acks ≤ job.config.credit }
+{}
+
+/// Every outstanding message is of a unit that is there, of a version above the one applied and at most the one issued,
+/// which is outstanding once, and was made after a beginning of the history.
+pub fn outstanding_messages_are_in_range()
+    ensures units { (job : Job) (v : View) (unit version : ℕ) → IsViewOf job v → 0 < outstanding v (is_version unit version) → unit < unit_count job }
+    ensures above_applied { (job : Job) (v : View) (unit version : ℕ) → IsViewOf job v → 0 < outstanding v (is_version unit version) → number v.hold.applied unit < version }
+    ensures issued { (job : Job) (v : View) (unit version : ℕ) → IsViewOf job v → 0 < outstanding v (is_version unit version) → version ≤ number v.outbox.issued unit }
+    ensures once { (job : Job) (v : View) (unit version : ℕ) → IsViewOf job v → outstanding v (is_version unit version) ≤ 1 }
+    ensures made_after { (job : Job) (v : View) (unit version at : ℕ) → IsViewOf job v → 0 < outstanding v (is_message unit version at) → at ≤ length v.history }
 {}
 
 /// Where a send goes on, it takes at least one message, all from the outbox, and there is room for them in the window.

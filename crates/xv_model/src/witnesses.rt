@@ -1,9 +1,9 @@
 //! Worked migrations in which the premises of the laws hold and something moves, so that no law is about nothing.
 
-ghost use Rattle.std.specs.Prelude.{◌≡◌, Bool, true, false, List, [], ◌∷◌, length, take, replicate, Some, None};
+ghost use Rattle.std.specs.Prelude.{◌≡◌, true, false, [], ◌∷◌, length, take, replicate, Some, None};
 ghost use Rattle.std.specs.List.{list_all};
 ghost use Rattle.xv_model.specs.Job.{IsGoodJob};
-ghost use Rattle.xv_model.specs.View.{first_view, front_group, number, is_stunned, is_switched};
+ghost use Rattle.xv_model.specs.View.{first_view, front_group, number, is_stunned};
 ghost use Rattle.xv_model.specs.Wait.{wait, fits, has_cancel};
 ghost use Rattle.xv_model.specs.Effect.{batch};
 ghost use Rattle.xv_model.specs.Step.{play, calls, is_run, is_faithful, NoCall, SourceRead, Put, Take, DestWrite, DestFlush, AckPut, AckTake};
@@ -18,7 +18,7 @@ ghost use Rattle.xv_model.specs.Worked.Throttling.{throttling_job, throttling_ev
 ghost use Rattle.xv_model.specs.Worked.CancelledWhileStunned.{cancelled_while_stunned_job, cancelled_while_stunned_events};
 ghost use Rattle.xv_model.specs.Worked.FailedDestination.{failed_destination_job, failed_destination_events};
 ghost use Rattle.xv_base.specs.declared.answer.Why.TheVariants.{CancelDue, Throttled};
-ghost use Rattle.xv_base.specs.declared.event.Event.TheVariants.{Advance, Send, Deliver, Apply, Ack, Credit, Switch, Cancel, Guest};
+ghost use Rattle.xv_base.specs.declared.event.Event.TheVariants.{Send, Deliver, Apply, Ack, Credit, Switch, Cancel, Guest};
 
 /// A migration from the first copy to the switchover is a run of a good job.
 pub fn first_path_is_a_good_run()
