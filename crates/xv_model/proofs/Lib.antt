@@ -19,3 +19,12 @@ pub mod Quiet
 pub mod First
 pub mod Kept
 pub mod Contents
+pub mod Window
+pub mod Able
+pub mod Left
+pub mod NeverStuck
+pub mod Drivers
+pub mod Finished
+pub mod OneMore
+pub mod NeverSwitched
+pub mod GoodJobs

@@ -4,4 +4,5 @@
 
 pub mod contents_laws;
 pub mod laws;
+pub mod witnesses;
 pub mod worked;
