@@ -19,3 +19,4 @@ pub mod Quiet
 pub mod First
 pub mod Kept
 pub mod Contents
+pub mod Bound
