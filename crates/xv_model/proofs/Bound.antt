@@ -1,2 +1,4 @@
 pub mod Guests
 pub mod Weights
+pub mod Effects
+pub mod Runs

@@ -114,6 +114,12 @@ dirty_weighs w d n k = elim k.known [
   | inr f ↦ rw f.1 (omega arith)
 ]
 
+pub dirty_more : (w d n n' : ℕ) → Weights w d → n' ≤ n + 1 → d * n' ≤ d * n + d
+dirty_more w d n n' k l = elim k.known [
+  | inl f ↦ rw f.1 (omega arith)
+  | inr f ↦ rw f.1 (omega arith)
+]
+
 pub dirty_limit : (w d : ℕ) → Weights w d → (6 ≤ d) × (d ≤ 7)
 dirty_limit w d k = elim k.known [
   | inl f ↦ (omega (arith, f.1), omega (arith, f.1))
