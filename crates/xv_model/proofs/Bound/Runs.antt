@@ -1,5 +1,5 @@
 -- Every step that does not wait lowers the work left; it begins within the bound; so every run is bounded.
-use Rattle.std.proofs.Common.{◌≡◌, ◌≤◌, ℕ, zero, suc, ◌+◌, ◌*◌, ◌==◌, ◌&&◌, nat_lt, Bool, true, false, if◌then◌else◌, List, [], ◌∷◌, length, map, replicate, Option, Some, None, refl, ap, inl, inr, arith}
+use Rattle.std.proofs.Common.{◌≡◌, ◌≤◌, ℕ, zero, suc, ◌+◌, ◌-◌, ◌*◌, ◌==◌, ◌&&◌, nat_lt, Bool, true, false, if◌then◌else◌, List, [], ◌∷◌, length, map, replicate, Option, Some, None, refl, ap, inl, inr, arith}
 use Rattle.std.specs.List.{list_all}
 use Rattle.std.proofs.lemmas.Bool.{and_parts, ltb-true}
 use Rattle.std.proofs.lemmas.List.{length-map, length-replicate}
@@ -15,7 +15,7 @@ use Rattle.xv_model.specs.Effect.{Turn, effect, fault_effect, given_up}
 use Rattle.xv_model.specs.Step.{Entry, step, turn, view_by, turn_by, breaks, is_wait, is_flagged, same_turn, after, run, is_run, is_run_from}
 use Rattle.xv_model.specs.Invariant.{IsViewOf}
 use Rattle.xv_model.specs.Outstanding.{any, count_streams}
-use Rattle.xv_model.specs.Work.{bound, work_left, operation_weight, dirty_weight, waiting_count, copies_left}
+use Rattle.xv_model.specs.Work.{bound, work_left, operation_weight, dirty_weight, waiting_count, copies_left, operations_left}
 use Rattle.xv_model.proofs.GoesOn.{guest_goes, begin_goes, read_goes, advance_goes, release_goes, round_goes, page_goes, send_goes, deliver_goes, apply_goes, ack_goes, credit_goes, stun_goes, switch_goes, cancel_goes, running_is_live, stunned_is_live, aim-store, aim-mirror, aim-join}
 use Rattle.xv_model.proofs.First.{first_view-holds}
 use Rattle.xv_model.proofs.Kept.{step-holds}
@@ -88,10 +88,6 @@ step-lowers job v e flag good f i h =
     (λ w b room. went job v e flag good f i w b room) (λ w b room. broke job v e flag good f i w room)
 
 -- the work that there is at first
-first-waiting : (shapes : List DiskShape) → waiting_count (map (λ (_ : DiskShape). no_disk) shapes) ≡ 0
-first-waiting [] = refl
-first-waiting (s ∷ shapes) = omega (arith, first-waiting shapes)
-
 first-copies : (shapes : List DiskShape) → copies_left (map (λ s. s.blocks) shapes) (map (λ (_ : DiskShape). no_disk) shapes) ≡ 8 * blocks_of shapes
 first-copies [] = refl
 first-copies (s ∷ shapes) = omega (arith, first-copies shapes)
@@ -108,8 +104,8 @@ no_streams : (n : ℕ) → count_streams any (replicate {A = List (List UnitHead
 no_streams zero = refl
 no_streams (suc n) = omega (arith, no_streams n)
 
-operations_at_most : (w d n : ℕ) → Weights w d → w * n ≤ 8 * n
-operations_at_most w d n k = elim k.known [
+operations_at_most : (w d n q : ℕ) → Weights w d → w * (n - 0) - q ≤ 8 * n
+operations_at_most w d n q k = elim k.known [
   | inl f ↦ rw f.0 (omega arith)
   | inr f ↦ rw f.0 (omega arith)
 ]
@@ -124,7 +120,7 @@ pub first-within : (job : Job) → IsGoodJob job → work_left job (first_view j
 first-within job good =
     let w = weights job good in
     let pages = job.shape.pages in
-    let operations = operations_at_most (operation_weight job.format) (dirty_weight job.format) (operation_count job) w in
+    let operations : operations_left job (first_view job) ≤ 8 * operation_count job = operations_at_most (operation_weight job.format) (dirty_weight job.format) (operation_count job) (waiting_count (first_view job).disks) w in
     let dirty = dirty_at_most (operation_weight job.format) (dirty_weight job.format) pages (members (replicate pages true)) w (members-all pages) in
     omega (arith, operations, dirty, first-copies job.shape.disks, members-none pages, no_streams job.config.streams, good.rounds.1)
 
