@@ -2,3 +2,4 @@ pub mod Guests
 pub mod Weights
 pub mod Effects
 pub mod Runs
+pub mod WorkedJobs
