@@ -1,22 +1,22 @@
 -- Each event that goes on, and each call that fails, lowers the work left.
-use Rattle.std.proofs.Common.{◌≡◌, ℕ, zero, suc, ◌+◌, ◌-◌, ◌*◌, ◌<◌, ◌≤◌, ◌==◌, ◌&&◌, min, not, nat_lt, nat_le, Bool, true, false, if◌then◌else◌, List, [], ◌∷◌, ◌++◌, length, map, set, take, drop, get_or, refl, sym, ap, subst, inl, inr, arith}
-use Rattle.std.proofs.lemmas.List.{length_push, length-append, length-drop, length-set, get_or_past}
-use Rattle.std.proofs.lemmas.Bool.{cases_Bool, cases_lt, and_parts, eqb-true, ltb-true, ne_eqb, both_ways}
+use Rattle.std.proofs.Common.{◌≡◌, ℕ, ◌+◌, ◌-◌, ◌*◌, ◌<◌, ◌≤◌, ◌==◌, not, nat_lt, nat_le, Bool, true, false, if◌then◌else◌, List, [], ◌∷◌, length, map, set, drop, get_or, refl, sym, ap, subst, inl, inr, arith}
+use Rattle.std.proofs.lemmas.List.{length_push, length-append, length-drop, get_or_past}
+use Rattle.std.proofs.lemmas.Bool.{cases_Bool, cases_lt, and_parts, eqb-true, ltb-true, ne_eqb}
 use Rattle.xv_model.specs.Job.{Job, IsGoodJob, UnitOp, operation_count, blocks, disk_of, block_of}
 use Rattle.xv_model.specs.Guest.{Ended}
 use Rattle.xv_model.specs.View.{View, Phase, Disk, Outbox, UnitHead, disk, front, no_disk, member, members, least, is_running, is_live, is_inside, all_copied, stream, front_group, ready}
-use Rattle.xv_model.specs.Wait.{Aim, Alone, Store, Join, Mirror, next_operation, next_aim}
+use Rattle.xv_model.specs.Wait.{Aim, Alone, Store, Join, Mirror}
 use Rattle.xv_model.specs.Outstanding.{any, count}
-use Rattle.xv_model.specs.Effect.{made, guest_by, ended_as, joined, front_gone, begun, block_read, advanced, released, round_begun, page_sent_off, sent, batch, delivered, applied_next, acknowledged, credited, stunned, switched, given_up, with_disk, without_region, region_length, cursor_unit, no_pages, fault_effect}
+use Rattle.xv_model.specs.Effect.{made, guest_by, ended_as, joined, front_gone, begun, block_read, advanced, released, round_begun, page_sent_off, sent, batch, delivered, applied_next, acknowledged, credited, stunned, switched, given_up, without_region, region_length, cursor_unit, no_pages, fault_effect}
 use Rattle.xv_model.specs.Invariant.{IsViewOf, are_good_groups, is_good_group}
-use Rattle.xv_model.specs.Work.{waiting_count, copy_left, operation_weight, dirty_weight, operations_left, work_left}
+use Rattle.xv_model.specs.Work.{waiting_count, operation_weight, dirty_weight, operations_left, work_left}
 use Rattle.xv_base.specs.declared.event.Event.TheVariants.{Release}
-use Rattle.xv_base.specs.declared.event.Phase.TheVariants.{Stunned, Switched}
+use Rattle.xv_base.specs.declared.event.Phase.TheVariants.{Switched}
 use Rattle.xv_base.specs.declared.operation.Outcome.TheVariants.{Done, Faulted}
 use Rattle.xv_model.proofs.Histories.{push}
 use Rattle.xv_model.proofs.GoesOn.{MeansStore, MeansMirror, MeansJoin, BeginGoes, ReadGoes, AdvanceGoes, ReleaseGoes, RoundGoes, PageGoes, SendGoes, DeliverGoes, ApplyGoes, AckGoes, CreditGoes, StunGoes, SwitchGoes, batch_fits, stunned_is_live, members-none, members-some, members-no_pages, members-set_false, members-set_true}
-use Rattle.xv_model.proofs.Bags.{count_streams-set, count_groups-append, count-remove, length-messages-run, on_the_way-sent, on_the_way-delivered, count-take-drop, ready-held}
-use Rattle.xv_model.proofs.Bound.Weights.{Weights, weights, work_of, copies_of, messages_of, lower_operations, lower_running, lower_messages, lower_released, lower_stunned, lower_over, ended_weighs, released_weighs, joined_weighs, dirty_weighs, dirty_more, dirty_limit, waiting_count-set, waiting_count-without, copies-set}
+use Rattle.xv_model.proofs.Bags.{count-remove, length-messages-run, on_the_way-sent, on_the_way-delivered, count-take-drop, ready-held}
+use Rattle.xv_model.proofs.Bound.Weights.{weights, work_of, copies_of, messages_of, lower_operations, lower_running, lower_messages, lower_released, lower_stunned, lower_over, ended_weighs, released_weighs, joined_weighs, dirty_weighs, dirty_more, dirty_limit, waiting_count-set, waiting_count-without, copies-set}
 
 -- a view has less work left than another; what waits is left
 abbrev pub Lowers : Job → View → View → Type 0

@@ -1,5 +1,5 @@
 -- The operations that have ended and the guests that wait are together at most the operations of the job.
-use Rattle.std.proofs.Common.{◌≡◌, ℕ, zero, suc, ◌+◌, ◌<◌, ◌≤◌, ◌==◌, is_some, Bool, true, false, ◌&&◌, if◌then◌else◌, List, [], ◌∷◌, length, get_or, refl, ap, subst, inl, inr, arith}
+use Rattle.std.proofs.Common.{◌≡◌, ℕ, zero, suc, ◌+◌, ◌<◌, ◌≤◌, ◌==◌, is_some, Bool, true, false, if◌then◌else◌, List, [], ◌∷◌, length, get_or, refl, ap, subst, inl, inr, arith}
 use Rattle.std.specs.Prelude.{sum_by}
 use Rattle.std.proofs.lemmas.List.{get_or_past}
 use Rattle.std.proofs.lemmas.List.Sums.{sum_by-cons}
@@ -59,9 +59,13 @@ ended-below h e n none = elim (cases_lt e.guest.0 n) [
 tally-history : (n : ℕ) (h : List Ended) → ((g : ℕ) → n ≤ g → ended h g ≡ 0) → length h ≤ tally n (ended h)
 tally-history n [] none = omega arith
 tally-history n (e ∷ h) none =
-    omega (arith, tally-one n e.guest.0 (ended-below h e n none), tally-history n h (λ g le. ended-rest h e g (none g le)),
-    tally-add n (λ g. if e.guest.0 == g then 1 else 0) (ended h),
-    tally-le n (λ g. (if e.guest.0 == g then 1 else 0) + ended h g) (ended (e ∷ h)) (λ g. omega (arith, ended-cons h e g)))
+    omega (
+      arith,
+      tally-one n e.guest.0 (ended-below h e n none),
+      tally-history n h (λ g le. ended-rest h e g (none g le)),
+      tally-add n (λ g. if e.guest.0 == g then 1 else 0) (ended h),
+      tally-le n (λ g. (if e.guest.0 == g then 1 else 0) + ended h g) (ended (e ∷ h)) (λ g. omega (arith, ended-cons h e g)),
+    )
 
 -- the guests that wait
 waits-below : (ws : List Waiting) (w : Waiting) (n : ℕ) → ((g : ℕ) → n ≤ g → waits_in (w ∷ ws) g ≡ 0) → w.guest.0 < n
@@ -73,14 +77,22 @@ waits-below ws w n none = elim (cases_lt w.guest.0 n) [
 tally-queue : (n : ℕ) (ws : List Waiting) → ((g : ℕ) → n ≤ g → waits_in ws g ≡ 0) → length ws ≤ tally n (waits_in ws)
 tally-queue n [] none = omega arith
 tally-queue n (w ∷ ws) none =
-    omega (arith, tally-one n w.guest.0 (waits-below ws w n none), tally-queue n ws (λ g le. omega (arith, none g le)),
-    tally-add n (λ g. if w.guest.0 == g then 1 else 0) (waits_in ws))
+    omega (
+      arith,
+      tally-one n w.guest.0 (waits-below ws w n none),
+      tally-queue n ws (λ g le. omega (arith, none g le)),
+      tally-add n (λ g. if w.guest.0 == g then 1 else 0) (waits_in ws),
+    )
 
 tally-queues : (n : ℕ) (ds : List Disk) → ((g : ℕ) → n ≤ g → waits_in_all ds g ≡ 0) → waiting_count ds ≤ tally n (waits_in_all ds)
 tally-queues n [] none = omega arith
 tally-queues n (d ∷ ds) none =
-    omega (arith, tally-queue n d.queue (λ g le. omega (arith, none g le)), tally-queues n ds (λ g le. omega (arith, none g le)),
-    tally-add n (waits_in d.queue) (waits_in_all ds))
+    omega (
+      arith,
+      tally-queue n d.queue (λ g le. omega (arith, none g le)),
+      tally-queues n ds (λ g le. omega (arith, none g le)),
+      tally-add n (waits_in d.queue) (waits_in_all ds),
+    )
 
 -- where a guest waits
 waits_in-found : (ws : List Waiting) (g : ℕ) → 0 < waits_in ws g → (i : ℕ) × (i < length ws) × ((get_or ws i no_waiting).guest.0 ≡ g)

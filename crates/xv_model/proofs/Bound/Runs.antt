@@ -1,14 +1,13 @@
 -- Every step that does not wait lowers the work left; it begins within the bound; so every run is bounded.
-use Rattle.std.proofs.Common.{◌≡◌, ◌≤◌, ℕ, zero, suc, ◌+◌, ◌-◌, ◌*◌, ◌==◌, ◌&&◌, nat_lt, Bool, true, false, if◌then◌else◌, List, [], ◌∷◌, length, map, replicate, Option, Some, None, refl, ap, inl, inr, arith}
+use Rattle.std.proofs.Common.{◌≡◌, ◌≤◌, ℕ, zero, suc, ◌+◌, ◌-◌, ◌*◌, ◌&&◌, nat_lt, Bool, true, false, List, [], ◌∷◌, length, map, replicate, Option, Some, None, refl, inl, inr, arith}
 use Rattle.std.specs.List.{list_all}
 use Rattle.std.proofs.lemmas.Bool.{and_parts, ltb-true}
-use Rattle.std.proofs.lemmas.List.{length-map, length-replicate}
 use Rattle.xv_base.specs.declared.unit.DiskShape.{DiskShape}
 use Rattle.xv_base.specs.Units.{blocks_of}
 use Rattle.xv_base.specs.declared.event.Event.TheVariants.{Guest, Begin, Read, Advance, Release, Round, Page, Send, Deliver, Apply, Ack, Credit, Stun, Switch, Cancel}
 use Rattle.xv_base.specs.declared.event.Phase.TheVariants.{Cancelled, Failed}
 use Rattle.xv_base.specs.declared.answer.Turn.TheVariants.{Done, Queued, Faulted, Wait as Waits, Failed as Broke, NoMemory}
-use Rattle.xv_model.specs.Job.{Job, IsGoodJob, operation_count, unit_count}
+use Rattle.xv_model.specs.Job.{Job, IsGoodJob, operation_count}
 use Rattle.xv_model.specs.View.{View, UnitHead, is_live, first_view, members, no_disk}
 use Rattle.xv_model.specs.Wait.{Event, Why, wait, fits, next_operation, next_aim}
 use Rattle.xv_model.specs.Effect.{Turn, effect, fault_effect, given_up}
@@ -16,7 +15,7 @@ use Rattle.xv_model.specs.Step.{Entry, step, turn, view_by, turn_by, breaks, is_
 use Rattle.xv_model.specs.Invariant.{IsViewOf}
 use Rattle.xv_model.specs.Outstanding.{any, count_streams}
 use Rattle.xv_model.specs.Work.{bound, work_left, operation_weight, dirty_weight, waiting_count, copies_left, operations_left}
-use Rattle.xv_model.proofs.GoesOn.{guest_goes, begin_goes, read_goes, advance_goes, release_goes, round_goes, page_goes, send_goes, deliver_goes, apply_goes, ack_goes, credit_goes, stun_goes, switch_goes, cancel_goes, running_is_live, stunned_is_live, aim-store, aim-mirror, aim-join}
+use Rattle.xv_model.proofs.GoesOn.{begin_goes, read_goes, advance_goes, release_goes, round_goes, page_goes, send_goes, deliver_goes, apply_goes, ack_goes, credit_goes, stun_goes, switch_goes, cancel_goes, running_is_live, stunned_is_live, aim-store, aim-mirror, aim-join}
 use Rattle.xv_model.proofs.First.{first_view-holds}
 use Rattle.xv_model.proofs.Kept.{step-holds}
 use Rattle.xv_model.proofs.Bound.Guests.{waiting-fits}

@@ -1,6 +1,5 @@
 -- The work left as a sum of four numbers, and what lowers it.
-use Rattle.std.proofs.Common.{◌≡◌, ◌⊎◌, ℕ, zero, suc, ◌+◌, ◌-◌, ◌*◌, ◌<◌, ◌≤◌, ◌==◌, Bool, true, false, if◌then◌else◌, List, [], ◌∷◌, length, map, set, get_or, refl, ap, inl, inr, arith}
-use Rattle.std.proofs.lemmas.List.{length-map}
+use Rattle.std.proofs.Common.{◌≡◌, ◌⊎◌, ℕ, zero, suc, ◌+◌, ◌-◌, ◌*◌, ◌<◌, ◌≤◌, true, false, if◌then◌else◌, List, [], ◌∷◌, length, map, set, get_or, refl, ap, inl, inr, arith}
 use Rattle.xv_base.specs.declared.unit.DiskShape.{DiskShape}
 use Rattle.xv_model.specs.Job.{Job, IsGoodJob, blocks}
 use Rattle.xv_model.specs.View.{View, Phase, Disk, no_disk, members, is_running, is_stunned, is_live}
