@@ -28,3 +28,4 @@ pub mod Finished
 pub mod OneMore
 pub mod NeverSwitched
 pub mod GoodJobs
+pub mod Bound

@@ -2,6 +2,7 @@
 // run. There is no engine code here; contracts at every level cite these definitions.
 #![tactic(auto)]
 
+pub mod bound_laws;
 pub mod contents_laws;
 pub mod laws;
 pub mod witnesses;

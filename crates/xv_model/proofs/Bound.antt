@@ -1,0 +1,5 @@
+pub mod Guests
+pub mod Weights
+pub mod Effects
+pub mod Runs
+pub mod WorkedJobs
