@@ -1,11 +1,11 @@
 -- The laws of a layout's units.
-use Rattle.std.proofs.Common.{◌≡◌, ℕ, ◌+◌, ◌-◌, ◌*◌, ◌<◌, ◌≤◌, IsTrue, refl, ap, ◌∙◌, arith, inl, inr}
+use Rattle.std.proofs.Common.{◌≡◌, ℕ, ◌+◌, ◌-◌, ◌*◌, ◌<◌, ◌≤◌, IsTrue, refl, ap, ◌∙◌, arith, inl, inr, zero, suc, add-zero}
 use Rattle.std.proofs.lemmas.Bool.{cases_lt, lt-ltb, le-ltb}
 use Rattle.xv_base.specs.Units.{Shape, units, all_bytes, size, place, max_size, unit_of_block, blocks_of, bytes_before, block_size_at, block_size, max_block_size}
 use Rattle.xv_base.specs.Layout.{IsGood, IsWithinLimits, is_unit_size}
 use Rattle.xv_base.specs.Laws.{PartitionsBytes, NumbersBlocks, HasGreatestSize}
 use Rattle.xv_base.proofs.Sums.{blocks_of-take}
-use Rattle.xv_base.proofs.Within.{good_within}
+use Rattle.xv_base.proofs.Within.{good_within, unit_size_least, unit_size_most}
 use Rattle.xv_base.proofs.Blocks.{disk_at-in, block_at-in, number_back, disk_at-number, block_at-number, block_size_at-disk, bytes_before-none, bytes_of-none, bytes_before-next, bytes_before-last, block_size_at-most, greatest_block}
 
 -- a page, and a block
@@ -60,6 +60,27 @@ sizes s w u h = elim (cases_lt u s.pages) [
       rw (size-block s u later, block_size_at-disk s.disks (u - s.pages) k) (w.block_sizes _ (disk_at-in s.disks (u - s.pages) k))
 ]
 
+-- the places rise
+place-rises : (s : Shape) (u n : ℕ) → u + n < units s → place s u ≤ place s (u + n)
+place-rises s u zero h = omega (arith, ap (place s) (add-zero u))
+place-rises s u (suc n) h =
+    let e : u + suc n ≡ u + n + 1 = omega arith in
+    rw e (omega (arith, place-rises s u n (omega arith), place-next s (u + n) (omega arith)))
+
+place-apart : (s : Shape) (u v : ℕ) → u < v → v < units s → place s u + size s u ≤ place s v
+place-apart s u v h l =
+    let e : u + 1 + (v - (u + 1)) ≡ v = omega arith in
+    let r = place-rises s (u + 1) (v - (u + 1)) (omega arith) in
+    omega (arith, place-next s u (omega arith), r, ap (place s) e)
+
+place-within : (s : Shape) (u : ℕ) → u < units s → place s u + size s u ≤ all_bytes s
+place-within s u h = elim (cases_lt (u + 1) (units s)) [
+  | inl more ↦
+      let last : units s - 1 + 1 ≡ units s = omega arith in
+      omega (arith, place-apart s u (units s - 1) (omega arith) (omega arith), place-last s (units s - 1) last)
+  | inr end ↦ omega (arith, place-last s u (omega arith))
+]
+
 pub partitions_bytes : (s : Shape) → IsGood s → PartitionsBytes s
 partitions_bytes s g =
     let w = good_within s g in
@@ -68,6 +89,10 @@ partitions_bytes s g =
       next = place-next s;
       last = place-last s;
       sizes = sizes s w;
+      at_least = λ u h. unit_size_least _ (sizes s w u h);
+      at_most = λ u h. unit_size_most _ (sizes s w u h);
+      within = place-within s;
+      apart = place-apart s;
     }
 
 pub numbers_blocks : (s : Shape) → NumbersBlocks s

@@ -9,6 +9,10 @@ pub record PartitionsBytes (s : Shape) : Type 0 where
   pub next : (u : ℕ) → u + 1 < units s → place s u + size s u ≡ place s (u + 1)
   pub last : (u : ℕ) → u + 1 ≡ units s → place s u + size s u ≡ all_bytes s
   pub sizes : (u : ℕ) → u < units s → IsTrue (is_unit_size (size s u))
+  pub at_least : (u : ℕ) → u < units s → 16 ≤ size s u
+  pub at_most : (u : ℕ) → u < units s → size s u ≤ 4096
+  pub within : (u : ℕ) → u < units s → place s u + size s u ≤ all_bytes s
+  pub apart : (u v : ℕ) → u < v → v < units s → place s u + size s u ≤ place s v
 
 -- each unit that is no page is one block of one disk, and each such block is one unit
 pub record NumbersBlocks (s : Shape) : Type 0 where
