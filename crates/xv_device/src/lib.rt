@@ -10,6 +10,8 @@ mod bytes;
 mod device;
 mod memory;
 mod plan;
+#[cfg(test)]
+mod tests;
 
 pub use device::UnitDevice;
 pub use memory::MemDevice;

@@ -63,6 +63,13 @@ impl History {
         }
     }
 
+    /// How many entries there is room for.
+    pub fn room(&self) -> u32
+        ensures { result ≡ self.now.room }
+    {
+        self.room
+    }
+
     /// How many entries there are.
     pub fn len(&self) -> u32
         ensures exactly { result ≡ length self.now.entries }

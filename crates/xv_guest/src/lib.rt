@@ -6,5 +6,7 @@
 #![tactic(auto)]
 
 mod history;
+#[cfg(test)]
+mod tests;
 
 pub use history::History;

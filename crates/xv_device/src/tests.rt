@@ -1,0 +1,57 @@
+ghost use Rattle.xv_device.specs.Device.{FlushAll};
+ghost use Rattle.xv_device.specs.Told.{MayCall};
+
+use crate::{DevicePlan, MemDevice, UnitDevice};
+use std::alloc::Global;
+use std::test::Fail;
+use xv_base::{Failed, Init, Layout, Pattern, UnitId};
+
+fn plan(alloc: Global, reads: u32, writes: u32, flushes: u32) -> Result<DevicePlan, Fail> {
+    Ok(DevicePlan {
+        reads: vec![in alloc; reads]?,
+        writes: vec![in alloc; writes]?,
+        flushes: vec![in alloc; flushes]?,
+    })
+}
+
+#[test]
+fn changes_one_unit_beside_its_neighbours(rt: HostRuntime) -> Result<(), Fail> {
+    let alloc = rt.alloc();
+    let layout = Layout::new(3, 16, &[])?;
+    let init = [Init {
+        unit: UnitId(1),
+        pattern: Pattern::new(b"cd"),
+    }];
+    let mut device = MemDevice::new(alloc, &layout, &init, plan(alloc, 0, 0, 0)?)?;
+    device.patch(UnitId(1), 0, b"ab")?;
+    device.patch(UnitId(1), 14, b"yz")?;
+    assert_eq!(rt; device.content(UnitId(0)), [0; 16].as_slice());
+    assert_eq!(rt; device.content(UnitId(1)), b"abcdcdcdcdcdcdyz".as_slice());
+    assert_eq!(rt; device.content(UnitId(2)), [0; 16].as_slice());
+    assert_eq!(rt; device.written(UnitId(1)), 2);
+    Ok(())
+}
+
+#[test]
+fn fails_at_the_planned_calls(rt: HostRuntime) -> Result<(), Fail> {
+    let alloc = rt.alloc();
+    let layout = Layout::new(1, 16, &[])?;
+    let mut device = MemDevice::new(alloc, &layout, &[], plan(alloc, 1, 2, 1)?)?;
+    let mut into = [9; 2];
+    assert_eq!(rt; device.read(UnitId(0), 14, &mut into), Err(Failed));
+    assert_eq!(rt; device.read(UnitId(0), 14, &mut into), Ok(()));
+    assert_eq!(rt; into.as_slice(), [0, 0].as_slice());
+    assert_eq!(rt; device.write(UnitId(0), b"0123456789abcdef"), Ok(()));
+    assert_eq!(rt; device.patch(UnitId(0), 0, b"-"), Err(Failed));
+    assert_eq!(rt; device.content(UnitId(0)), b"0123456789abcdef".as_slice());
+    assert_eq!(rt; device.flush(), Err(Failed));
+    assert_eq!(rt; flush_through(&mut device), Ok(()));
+    Ok(())
+}
+
+/// Flushes any device.
+fn flush_through<D: UnitDevice>(device: &mut D) -> Result<(), Failed>
+    requires { MayCall FlushAll (D.told device.old) }
+{
+    device.flush()
+}
