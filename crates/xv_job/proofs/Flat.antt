@@ -1,16 +1,15 @@
 -- The lines of a job as words, numbers and patterns, one after another.
-use Rattle.std.proofs.Common.{◌≡◌, ℕ, ◌+◌, ◌<◌, ◌≤◌, ◌^◌, List, [], ◌∷◌, ◌++◌, length, Option, Some, None, decimal, codes, refl, sym, ap, ◌∙◌, arith, append_assoc, IsTrue, subst}
+use Rattle.std.proofs.Common.{◌≡◌, ℕ, ◌<◌, ◌≤◌, ◌^◌, List, [], ◌∷◌, ◌++◌, length, Option, decimal, codes, refl, sym, ap, ◌∙◌, arith, append_assoc, IsTrue, subst}
 use Rattle.std.proofs.lemmas.List.Concat.{flat_map-append}
 use Rattle.std.proofs.lemmas.Fmt.{decimal_digit}
 use Rattle.std.proofs.lemmas.Bool.Decides.{nat_tests}
 use Rattle.xv_base.specs.declared.unit.DiskShape.{DiskShape}
-use Rattle.xv_base.specs.declared.unit.UnitId.{UnitId}
 use Rattle.xv_base.specs.declared.pattern.UnitOp.{UnitOp}
 use Rattle.xv_base.specs.declared.limits.Config.{Config}
-use Rattle.xv_base.specs.Units.{Shape, units, size, blocks, blocks_of, block_size, disk_of, block_of, unit_of_block}
+use Rattle.xv_base.specs.Units.{Shape, units, blocks, blocks_of, block_size, disk_of, block_of, unit_of_block}
 use Rattle.xv_base.specs.Layout.{is_unit_size, IsWithinLimits}
 use Rattle.xv_base.specs.Laws.{NumbersBlocks}
-use Rattle.xv_job.specs.Built.{one_disk, built_config, written, IsOneDisk, IsBuiltConfig, IsBlockWrite}
+use Rattle.xv_job.specs.Built.{one_disk, built_config, written, IsOneDisk, IsBuiltConfig}
 use Rattle.xv_job.specs.Text.{line, text_of, hex, layout_lines, limit_lines, head_lines, write_fields}
 
 pub decimal_none : decimal 0 ≡ 48 ∷ []
@@ -135,7 +134,7 @@ pub head_text : (s : Shape) (k : Config) (rest : List ℕ) → text_of (head_lin
 head_text s k rest =
     let guest = (codes "guest" ∷ []) ∷ [] in
     let later : text_of (layout_lines s ++ (limit_lines k ++ guest)) ≡ text_of (layout_lines s) ++ (text_of (limit_lines k) ++ text_of guest) =
-        text_append (layout_lines s) (limit_lines k ++ guest) ∙ ap (λ (t : List ℕ). text_of (layout_lines s) ++ t) (text_append (limit_lines k) guest) in
+    text_append (layout_lines s) (limit_lines k ++ guest) ∙ ap (λ (t : List ℕ). text_of (layout_lines s) ++ t) (text_append (limit_lines k) guest) in
     ap (λ (t : List ℕ). (line (codes "job" ∷ decimal 1 ∷ []) ++ t) ++ rest) later
     ∙ four (line (codes "job" ∷ decimal 1 ∷ [])) (text_of (layout_lines s)) (text_of (limit_lines k)) (codes "guest" ++ 10 ∷ []) rest
     ∙ ap (λ (t : List ℕ). t ++ (text_of (layout_lines s) ++ (text_of (limit_lines k) ++ ((codes "guest" ++ 10 ∷ []) ++ rest)))) first_line

@@ -5,10 +5,9 @@ use Rattle.std.specs.Option.{MatchOption, IsSomeAnd}
 use Rattle.std.specs.Result.{OkIff, result_ok}
 use Rattle.std.specs.Char.{is_ascii_digit, digit_value}
 use Rattle.std.specs.Str.Parse.{digits_value}
-use Rattle.std.specs.List.{prefix_len, list_all, flat_map}
-use Rattle.std.proofs.lemmas.List.{append_cancel_left, take_at, drop_at, take-append-drop, take_more, take_more_set, length-append}
+use Rattle.std.specs.List.{prefix_len, list_all}
+use Rattle.std.proofs.lemmas.List.{append_cancel_left, take_at, drop_at, take_more, take_more_set, length-append}
 use Rattle.std.proofs.lemmas.Bool.Decides.{nat_tests}
-use Rattle.std.proofs.lemmas.Grind.{common_steps}
 use Rattle.std.proofs.lemmas.Str.Parse.{IsNumeralModel, numerals_by_value}
 use Rattle.std.proofs.lemmas.Fmt.{digits_decimal, digits_value-decimal, decimal-digits_value, length-decimal-le, decimal_nonempty, first_decimal, decimal_digit}
 use Rattle.xv_job.specs.Text.{hex, hex_digit, is_hex_digit}
@@ -41,7 +40,7 @@ run_passes p [] = refl
 run_passes p (x ∷ xs) = elim (either (p x)) [
   | inl passes ↦ rw (passes, take_first x (prefix_len p xs) xs, passes) (run_passes p xs)
   | inr stops ↦ rw stops refl
-  ]
+]
 
 pub run_ends : (p : ℕ → Bool) (xs : List ℕ) (end : ℕ) (rest : List ℕ) → list_all p xs ≡ true → p end ≡ false → prefix_len p (xs ++ end ∷ rest) ≡ length xs
 run_ends p [] end rest h stop = rw stop refl

@@ -1,7 +1,7 @@
 -- A job of the built form from its parts, and its parts from the job.
-use Rattle.std.proofs.Common.{◌≡◌, ℕ, zero, suc, ◌+◌, ◌-◌, ◌<◌, ◌≤◌, ◌^◌, Bool, true, false, List, [], ◌∷◌, ◌++◌, length, map, take, drop, get_or, Option, Some, None, is_some, IfSome, decimal, codes, refl, rules, sym, ap, subst, ◌∙◌, arith, append_assoc, inl, inr, IsTrue}
-use Rattle.std.specs.List.{AllByRecursion, flat_map, sum_by}
-use Rattle.std.proofs.lemmas.List.{append-nil, length-append, length-map, length-drop, drop-drop, take-append-drop, append_cancel_right, length-take-le}
+use Rattle.std.proofs.Common.{◌≡◌, ℕ, zero, suc, ◌+◌, ◌<◌, ◌≤◌, ◌^◌, true, List, [], ◌∷◌, ◌++◌, length, map, take, drop, get_or, Option, None, is_some, decimal, codes, refl, rules, sym, ap, subst, ◌∙◌, arith, append_assoc, inl, IsTrue}
+use Rattle.std.specs.List.{AllByRecursion, sum_by}
+use Rattle.std.proofs.lemmas.List.{append-nil, length-append, length-map, drop-drop, take-append-drop, append_cancel_right, length-take-le}
 use Rattle.std.proofs.lemmas.List.Concat.{flat_map-append}
 use Rattle.std.proofs.lemmas.Bool.Decides.{nat_tests}
 use Rattle.xv_base.specs.declared.unit.DiskShape.{DiskShape}
@@ -9,12 +9,12 @@ use Rattle.xv_base.specs.declared.pattern.UnitOp.{UnitOp}
 use Rattle.xv_base.specs.declared.pattern.Init.{Init}
 use Rattle.xv_base.specs.declared.limits.Config.{Config}
 use Rattle.xv_base.specs.declared.limits.Fault.{Fault}
-use Rattle.xv_base.specs.Units.{Shape, units, size, blocks}
-use Rattle.xv_base.specs.Layout.{is_unit_size, IsWithinLimits}
+use Rattle.xv_base.specs.Units.{Shape, size, blocks}
+use Rattle.xv_base.specs.Layout.{is_unit_size}
 use Rattle.xv_base.specs.Laws.{PartitionsBytes}
-use Rattle.xv_model.specs.Job.{Job, IsGoodJob, IsLegal, trace, operation, operation_count, guest_count, no_operation}
-use Rattle.xv_job.specs.Built.{job_of, built_config, written, IsBuilt, IsOneDisk, IsBuiltConfig, IsBlockWrite}
-use Rattle.xv_job.specs.Text.{line, text_of, disk_fields, layout_lines, limit_lines, guest_lines, write_fields, head_lines, trace_lines, job_lines, job_text}
+use Rattle.xv_model.specs.Job.{Job, IsGoodJob, IsLegal, trace, operation_count, no_operation}
+use Rattle.xv_job.specs.Built.{job_of, built_config, IsBuilt, IsOneDisk, IsBuiltConfig, IsBlockWrite}
+use Rattle.xv_job.specs.Text.{line, text_of, disk_fields, layout_lines, limit_lines, write_fields, head_lines, trace_lines, job_lines, job_text}
 
 -- a fact on each operation of the only guest
 only_trace : (P : UnitOp → Type 0) (ops : List UnitOp) → AllByRecursion P ops → (k : ℕ) → k < length ops → P (get_or ops k no_operation)
@@ -167,5 +167,36 @@ line_count s k ops one =
 pub taken : (text front back : List ℕ) (n m : ℕ) → text ≡ front ++ drop n text → drop n text ≡ back ++ drop m (drop n text) → take (n + m) text ≡ front ++ back
 taken text front back n m e f =
     let whole : text ≡ (front ++ back) ++ drop (n + m) text =
-        e ∙ ap (λ (r : List ℕ). front ++ r) f ∙ sym (append_assoc front back (drop m (drop n text))) ∙ ap (λ (r : List ℕ). (front ++ back) ++ r) (drop-drop m n text) in
+    e ∙ ap (λ (r : List ℕ). front ++ r) f ∙ sym (append_assoc front back (drop m (drop n text))) ∙ ap (λ (r : List ℕ). (front ++ back) ++ r) (drop-drop m n text) in
     append_cancel_right (take (n + m) text) (front ++ back) (drop (n + m) text) (take-append-drop (n + m) text ∙ whole)
+
+-- the text of a job as its head, its trace and what follows
+pub head_of : (j : Job) (text rest : List ℕ) → HasParts j → text ≡ job_text j ++ rest → text ≡ text_of (head_lines j.shape j.config) ++ (text_of (trace_lines j.shape (trace j 0)) ++ rest)
+head_of j text rest p e =
+    e ∙ ap (λ (i : Job). job_text i ++ rest) p.is ∙ text_parts j.shape j.config (trace j 0) rest
+
+-- the same, where the head has been read
+pub trace_of : (s shape : Shape) (ops : List UnitOp) (text rest after : List ℕ) → s ≡ shape → after ≡ text → text ≡ text_of (trace_lines shape ops) ++ rest → after ≡ text_of (trace_lines s ops) ++ rest
+trace_of s shape ops text rest after e f g =
+    f ∙ g ∙ ap (λ (t : Shape). text_of (trace_lines t ops) ++ rest) (sym e)
+
+pub writes_of : (s shape : Shape) (ops : List UnitOp) → s ≡ shape → AllByRecursion (IsBlockWrite shape) ops → AllByRecursion (IsBlockWrite s) ops
+writes_of s shape ops e g = let P : Shape → Type 0 = λ t. AllByRecursion (IsBlockWrite t) ops in subst P (sym e) g
+
+-- a job from equal parts
+pub same_job : (j : Job) (s : Shape) (k : Config) (ops : List UnitOp) → HasParts j → s ≡ j.shape → k ≡ j.config → ops ≡ trace j 0 → job_of s k [] [] (ops ∷ []) ≡ j
+same_job j s k ops p e f g =
+    ap (λ (t : Shape). job_of t k [] [] (ops ∷ [])) e
+    ∙ ap (λ (c : Config). job_of j.shape c [] [] (ops ∷ [])) f
+    ∙ ap (λ (os : List UnitOp). job_of j.shape j.config [] [] (os ∷ [])) g
+    ∙ sym p.is
+
+pub whole_text : (text : List ℕ) (s : Shape) (k : Config) (ops : List UnitOp) (rest : List ℕ) (n m : ℕ) → text ≡ text_of (head_lines s k) ++ drop n text → rest ≡ drop n text → rest ≡ text_of (trace_lines s ops) ++ drop m rest → take (n + m) text ≡ job_text (job_of s k [] [] (ops ∷ []))
+whole_text text s k ops rest n m e back f =
+    taken text (text_of (head_lines s k)) (text_of (trace_lines s ops)) n m e
+    (sym back ∙ f ∙ ap (λ (r : List ℕ). text_of (trace_lines s ops) ++ drop m r) back)
+    ∙ sym (text_is s k ops)
+
+pub whole_length : (text : List ℕ) (i j : Job) (n : ℕ) → n ≤ length text → take n text ≡ job_text i → i ≡ j → n ≡ length (job_text j)
+whole_length text i j n fits e same =
+    sym (length-take-le n text fits) ∙ ap length e ∙ ap (λ (job : Job). length (job_text job)) same

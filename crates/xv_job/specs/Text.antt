@@ -1,5 +1,5 @@
 -- What a job is as text.
-use Rattle.std.specs.Prelude.{◌≡◌, ℕ, ◌/◌, ◌%◌, ◌+◌, nat_lt, if◌then◌else◌, List, [], ◌∷◌, ◌++◌, map, decimal, codes, Result, Ok, Err, Bool, ◌||◌}
+use Rattle.std.specs.Prelude.{ℕ, ◌/◌, ◌%◌, ◌+◌, nat_lt, if◌then◌else◌, List, [], ◌∷◌, ◌++◌, map, decimal, codes, Result, Ok, Err, Bool, ◌||◌}
 use Rattle.std.specs.Char.{is_ascii_digit}
 use Rattle.std.specs.Int.{is_in_range}
 use Rattle.std.specs.List.{flat_map}
@@ -65,7 +65,7 @@ abbrev pub job_lines : Job → List (List (List ℕ))
 job_lines job =
     (codes "job" ∷ decimal job.format ∷ [])
     ∷ (layout_lines job.shape
-        ++ (limit_lines job.config ++ (flat_map (guest_lines job.shape) job.traces ++ (codes "end" ∷ []) ∷ [])))
+    ++ (limit_lines job.config ++ (flat_map (guest_lines job.shape) job.traces ++ (codes "end" ∷ []) ∷ [])))
 
 -- the lines of a built job before its operations, and from there to its end
 abbrev pub head_lines : Shape → Config → List (List (List ℕ))

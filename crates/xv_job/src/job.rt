@@ -7,9 +7,7 @@ ghost use Rattle.xv_job.specs.Built.{job_of, IsBuilt, IsOneDisk, IsBuiltConfig, 
 
 use std::alloc::Global;
 use std::marker::Model;
-use xv_base::{
-    Config, Fault, Init, Layout, NoMemory, layouts_keep_limits, units_partition_bytes,
-};
+use xv_base::{Config, Fault, Init, Layout, NoMemory, units_partition_bytes};
 use xv_trace::Trace;
 
 /// What a migration is asked to do: the machine, the limits, the calls that are to fail, the units that do not
@@ -49,7 +47,6 @@ impl Job {
         ensures is { IfOk result (λ job. job ≡ job_of layout config [] [] (trace ∷ [])) }
         ensures good { IfOk result (λ job. IsGoodJob job × IsBuilt job) }
     {
-        layouts_keep_limits();
         units_partition_bytes();
         let mut traces = Vec::new(alloc);
         match traces.push(trace) {

@@ -1,5 +1,4 @@
-use Rattle.std.proofs.Common.{◌≡◌, ◌+◌, ◌*◌, ◌<◌, take, arith}
-use Rattle.xv_job.specs.Text.{hex, hex_digit}
+use Rattle.std.proofs.Common.{arith}
 use Rattle.xv_job.proofs.Runs.{bytes_of_set, decoded}
 use Rattle.xv_job.proofs.fields.decode.Goals as goal
 

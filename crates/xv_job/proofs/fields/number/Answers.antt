@@ -1,4 +1,4 @@
-use Rattle.std.proofs.Common.{ℕ, List, ◌≡◌, ◌<◌, ◌^◌, ◌++◌, ◌∷◌, decimal, arith}
+use Rattle.std.proofs.Common.{decimal, arith}
 use Rattle.std.specs.Char.{is_ascii_digit}
 use Rattle.xv_job.proofs.Runs.{run_passes, split_cut, decimal_is_digits}
 use Rattle.xv_job.proofs.fields.number.Goals as goal

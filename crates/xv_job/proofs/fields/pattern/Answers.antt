@@ -1,5 +1,4 @@
-use Rattle.std.proofs.Common.{ℕ, List, ◌≡◌, ◌++◌, ◌∷◌, ◌∙◌, refl, arith}
-use Rattle.xv_job.specs.Built.{IsPattern}
+use Rattle.std.proofs.Common.{◌∙◌, refl, arith}
 use Rattle.xv_job.specs.Text.{hex, is_hex_digit}
 use Rattle.xv_job.proofs.Runs.{run_passes, split_cut, hex_passes, hex_front, hex_found, rest_is}
 use Rattle.xv_job.proofs.fields.pattern.Goals as goal

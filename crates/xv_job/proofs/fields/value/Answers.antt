@@ -1,4 +1,4 @@
-use Rattle.std.proofs.Common.{ℕ, List, ◌≡◌, ◌<◌, length, arith, decimal, ◌∙◌, sym, ap}
+use Rattle.std.proofs.Common.{◌≡◌, ◌<◌, length, arith, decimal, ◌∙◌, sym, ap}
 use Rattle.std.proofs.lemmas.Bool.Decides.{nat_tests}
 use Rattle.std.specs.Str.Parse.{digits_value}
 use Rattle.xv_job.proofs.Runs.{decimal_shape, decimal_of_value, zero_found, zero_only, fits_found, fits_only}
@@ -27,7 +27,7 @@ returns-clause-found c =
     let some : 0 < length ds = grind (arith, nat_tests) in
     let v : c.digits_value.result ≡ digits_value 10 ds = c.digits_value.ensures in
     rw c.ok.ensures.value (fits_found ds _ c.try_from.result c.try_from.ensures
-        (λ small. decimal_of_value ds c.requires some (λ e. absurd (c.if-digits-eq48.false e)) (omega (arith, v, small)) ∙ ap decimal (sym v)))
+    (λ small. decimal_of_value ds c.requires some (λ e. absurd (c.if-digits-eq48.false e)) (omega (arith, v, small)) ∙ ap decimal (sym v)))
 
 pub returns-clause-only : goal.returns-clause-only
 returns-clause-only c = λ n small e.

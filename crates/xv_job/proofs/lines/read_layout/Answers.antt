@@ -1,4 +1,4 @@
-use Rattle.std.proofs.Common.{ℕ, List, ◌≡◌, ◌++◌, ◌∙◌, ◌-◌, length, drop, sym, ap, subst}
+use Rattle.std.proofs.Common.{◌≡◌, ◌++◌, ◌∙◌, ◌-◌, length, drop, sym, ap, subst}
 use Rattle.xv_base.specs.Units.{Shape, blocks, block_size}
 use Rattle.xv_job.specs.Built.{IsOneDisk, one_disk}
 use Rattle.xv_job.proofs.Flat.{layout_text, layout_found, one_disk_parts, small}
@@ -25,10 +25,11 @@ pub returns-clause-found : goal.returns-clause-found
 returns-clause-found c =
     let rest = c.in_ok-blocks.rest.now in
     let e = layout_found c.args.text.now c.in_ok-pages.rest.now rest c.in_ok-pages.pages c.in_ok-pages.page_size c.in_ok-blocks.blocks c.in_ok-blocks.block_size c.in_ok-pages.ensures.found c.in_ok-blocks.ensures.found in
-    let front = text_of (layout_lines (one_disk c.in_ok-pages.pages c.in_ok-pages.page_size c.in_ok-blocks.blocks c.in_ok-blocks.block_size)) in
-    (c.in_ok-layout.ensures.found.0,
-        rest_found c.args.text.now front rest e
-        ∙ ap (λ (s : Shape). text_of (layout_lines s) ++ drop (length c.args.text.now - length rest) c.args.text.now) (sym c.in_ok-layout.ensures.found.1))
+    let front = text_of (layout_lines (one_disk c.in_ok-pages.pages c.in_ok-pages.page_size c.in_ok-blocks.blocks c.in_ok-blocks.block_size)) in (
+      c.in_ok-layout.ensures.found.0,
+      rest_found c.args.text.now front rest e
+          ∙ ap (λ (s : Shape). text_of (layout_lines s) ++ drop (length c.args.text.now - length rest) c.args.text.now) (sym c.in_ok-layout.ensures.found.1),
+    )
 
 pub returns-clause-only : goal.returns-clause-only
 returns-clause-only c = λ shape rest one is.

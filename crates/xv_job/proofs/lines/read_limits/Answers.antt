@@ -1,4 +1,4 @@
-use Rattle.std.proofs.Common.{ℕ, List, ◌≡◌, ◌++◌, ◌∙◌, sym, ap, subst, arith}
+use Rattle.std.proofs.Common.{◌≡◌, ◌++◌, ◌∙◌, sym, ap, subst, arith}
 use Rattle.xv_base.specs.declared.limits.Config.{Config}
 use Rattle.xv_job.specs.Text.{text_of, limit_lines}
 use Rattle.xv_job.specs.Built.{IsBuiltConfig, built_config}
@@ -47,9 +47,11 @@ returns-in_err-config-clause-only c = λ config rest built e.
 
 pub returns-clause-found : goal.returns-clause-found
 returns-clause-found c =
-    let is = c.in_ok-config.ensures.found in
-    (is.0, limits_found c.args.text.now _ _ _ _ c.in_ok-rest-3.rest.now c.in_ok-credit.credit c.in_ok-outbox.outbox c.in_ok-rest.ensures.found c.in_ok-credit.ensures.found c.in_ok-rest-2.ensures.found c.in_ok-outbox.ensures.found c.in_ok-rest-3.ensures.found
-        ∙ ap (λ (k : Config). text_of (limit_lines k) ++ c.in_ok-rest-3.rest.now) (sym is.1))
+    let is = c.in_ok-config.ensures.found in (
+      is.0,
+      limits_found c.args.text.now _ _ _ _ c.in_ok-rest-3.rest.now c.in_ok-credit.credit c.in_ok-outbox.outbox c.in_ok-rest.ensures.found c.in_ok-credit.ensures.found c.in_ok-rest-2.ensures.found c.in_ok-outbox.ensures.found c.in_ok-rest-3.ensures.found
+          ∙ ap (λ (k : Config). text_of (limit_lines k) ++ c.in_ok-rest-3.rest.now) (sym is.1),
+    )
 
 pub returns-clause-only : goal.returns-clause-only
 returns-clause-only c = λ config rest built e.

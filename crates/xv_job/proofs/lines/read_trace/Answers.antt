@@ -1,11 +1,7 @@
-use Rattle.std.proofs.Common.{ℕ, List, ◌≡◌, ◌≤◌, ◌^◌, ◌++◌, ◌∷◌, [], ◌∙◌, ◌-◌, length, drop, sym, ap, arith}
-use Rattle.std.specs.List.{AllByRecursion}
+use Rattle.std.proofs.Common.{◌∷◌, [], ◌∙◌, arith}
 use Rattle.std.proofs.lemmas.List.{length-append}
-use Rattle.xv_base.specs.Units.{Shape}
-use Rattle.xv_base.specs.declared.pattern.UnitOp.{UnitOp}
-use Rattle.xv_job.specs.Built.{IsOneDisk, IsBlockWrite}
-use Rattle.xv_job.specs.Text.{text_of, line, trace_lines, write_fields}
-use Rattle.xv_job.proofs.Writes.{IsReadTo, step, finish, ended}
+use Rattle.xv_job.specs.Text.{text_of, trace_lines}
+use Rattle.xv_job.proofs.Writes.{step, finish, ended}
 use Rattle.xv_job.proofs.Runs.{rest_found, rest_is}
 use Rattle.xv_job.proofs.lines.read_trace.Goals as goal
 

@@ -1,5 +1,4 @@
 use Rattle.std.proofs.Common.{length, ◌≤◌, ◌^◌}
-use Rattle.xv_job.specs.Built.{IsOneDisk}
 use Rattle.xv_job.proofs.Writes.{IsReadTo}
 use Rattle.xv_job.proofs.lines.read_trace.Given as goal
 

@@ -1,7 +1,7 @@
 use Rattle.std.proofs.Common.{ℕ, List, ◌≡◌, ◌<◌, ◌^◌, ◌++◌, ◌∷◌, ◌∙◌, Some, decimal, sym, ap, refl, arith, length}
 use Rattle.xv_base.specs.declared.pattern.UnitOp.{UnitOp}
-use Rattle.xv_base.specs.Units.{Shape, blocks, block_of, disk_of, unit_of_block, units, size}
-use Rattle.xv_job.specs.Built.{IsOneDisk, IsBlockWrite, written}
+use Rattle.xv_base.specs.Units.{blocks, block_of, disk_of, unit_of_block, size}
+use Rattle.xv_job.specs.Built.{written}
 use Rattle.xv_job.specs.Text.{line, write_fields, hex}
 use Rattle.xv_job.proofs.Runs.{rest_found, rest_is}
 use Rattle.xv_job.proofs.Flat.{write_text, write_found, small, of_block, same_op}
@@ -75,18 +75,20 @@ returns-clause-found c =
     let in_disk : block < blocks s.disks 0 = omega (arith, c.blocks-2.ensures.exactly, c.if-block-blocks.false) in
     let op : UnitOp = record { unit = c.unit_of_block-unit.result; offset = 0; len = c.size.result; write = Some c.in_ok-bytes.bytes } in
     let disk : disk_of s op.unit.0 ≡ 0 = rw is (n.disk_back 0 block in_disks in_disk) in
-    let of : block_of s op.unit.0 ≡ block = rw is (n.block_back 0 block in_disks in_disk) in
-    (record {
-      block = rw is (n.no_page 0 block);
-      in_range = rw is (n.unit_in 0 block in_disks in_disk);
-      from_start = refl;
-      to_end = c.size.ensures.exactly;
-      writes = refl;
-      pattern = c.in_ok-bytes.ensures.found.0;
-    }, rest_found c.args.text.now (line (write_fields s op)) c.split_at.result.1.now
-        (write_found c.args.text.now c.in_ok-rest.rest.now c.in_ok-block.rest.now c.in_ok-rest-2.rest.now c.split_at.result.1.now s op disk
-            c.in_ok-rest.ensures.found (c.in_ok-block.ensures.found ∙ ap (λ (k : ℕ). decimal k ++ 32 ∷ c.in_ok-block.rest.now) (sym of)) c.in_ok-rest-2.ensures.found
-            (c.in_ok-bytes.ensures.found.1 ∙ ap (λ (r : List ℕ). hex c.in_ok-bytes.bytes ++ 10 ∷ r) (sym c.split_at.ensures.back))))
+    let of : block_of s op.unit.0 ≡ block = rw is (n.block_back 0 block in_disks in_disk) in (
+      record {
+        block = rw is (n.no_page 0 block);
+        in_range = rw is (n.unit_in 0 block in_disks in_disk);
+        from_start = refl;
+        to_end = c.size.ensures.exactly;
+        writes = refl;
+        pattern = c.in_ok-bytes.ensures.found.0;
+      },
+      rest_found c.args.text.now (line (write_fields s op)) c.split_at.result.1.now
+          (write_found c.args.text.now c.in_ok-rest.rest.now c.in_ok-block.rest.now c.in_ok-rest-2.rest.now c.split_at.result.1.now s op disk
+          c.in_ok-rest.ensures.found (c.in_ok-block.ensures.found ∙ ap (λ (k : ℕ). decimal k ++ 32 ∷ c.in_ok-block.rest.now) (sym of)) c.in_ok-rest-2.ensures.found
+          (c.in_ok-bytes.ensures.found.1 ∙ ap (λ (r : List ℕ). hex c.in_ok-bytes.bytes ++ 10 ∷ r) (sym c.split_at.ensures.back))),
+    )
 
 pub returns-clause-only : goal.returns-clause-only
 returns-clause-only c = λ op rest good e.
@@ -108,7 +110,8 @@ returns-clause-only c = λ op rest good e.
     let disk : disk_of s own.unit.0 ≡ 0 = rw is (n.disk_back 0 block in_disks in_disk) in
     let of : block_of s own.unit.0 ≡ block = rw is (n.block_back 0 block in_disks in_disk) in
     let found = write_found c.args.text.now c.in_ok-rest.rest.now c.in_ok-block.rest.now c.in_ok-rest-2.rest.now c.split_at.result.1.now s own disk
-            c.in_ok-rest.ensures.found (c.in_ok-block.ensures.found ∙ ap (λ (k : ℕ). decimal k ++ 32 ∷ c.in_ok-block.rest.now) (sym of)) c.in_ok-rest-2.ensures.found
-            (c.in_ok-bytes.ensures.found.1 ∙ ap (λ (r : List ℕ). hex c.in_ok-bytes.bytes ++ 10 ∷ r) (sym c.split_at.ensures.back)) in
-    (same_op own op unit (sym good.from_start) (c.size.ensures.exactly ∙ ap (λ (u : ℕ). size s u) unit ∙ sym good.to_end) (ap (λ (p : List ℕ). Some p) r4.0 ∙ sym good.writes),
-        rest_is c.args.text.now (line (write_fields s own)) c.split_at.result.1.now found ∙ c.split_at.ensures.back ∙ r4.1)
+    c.in_ok-rest.ensures.found (c.in_ok-block.ensures.found ∙ ap (λ (k : ℕ). decimal k ++ 32 ∷ c.in_ok-block.rest.now) (sym of)) c.in_ok-rest-2.ensures.found
+    (c.in_ok-bytes.ensures.found.1 ∙ ap (λ (r : List ℕ). hex c.in_ok-bytes.bytes ++ 10 ∷ r) (sym c.split_at.ensures.back)) in (
+      same_op own op unit (sym good.from_start) (c.size.ensures.exactly ∙ ap (λ (u : ℕ). size s u) unit ∙ sym good.to_end) (ap (λ (p : List ℕ). Some p) r4.0 ∙ sym good.writes),
+      rest_is c.args.text.now (line (write_fields s own)) c.split_at.result.1.now found ∙ c.split_at.ensures.back ∙ r4.1,
+    )
