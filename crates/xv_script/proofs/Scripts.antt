@@ -1,5 +1,5 @@
 -- Scripts of the built form, read line by line.
-use Rattle.std.proofs.Common.{◌≡◌, ◌≢◌, ℕ, ◌+◌, ◌*◌, ◌<◌, ◌==◌, nat_eq, Bool, true, false, ◌&&◌, ◌||◌, not, List, [], ◌∷◌, ◌++◌, length, get_or, decimal, codes, if◌then◌else◌, Option, None, refl, sym, ap, ◌∙◌, arith, subst, append_assoc, append-nil}
+use Rattle.std.proofs.Common.{◌≡◌, ◌≢◌, ℕ, zero, suc, ◌+◌, ◌*◌, ◌<◌, ◌==◌, nat_eq, Bool, true, false, ◌&&◌, ◌||◌, not, List, [], ◌∷◌, ◌++◌, length, get_or, decimal, codes, if◌then◌else◌, Option, None, refl, sym, ap, ◌∙◌, arith, subst, append_assoc, append-nil}
 use Rattle.std.specs.Option.{MatchOption}
 use Rattle.std.specs.List.{list_all}
 use Rattle.std.proofs.lemmas.List.{append_cancel_left}
@@ -226,4 +226,18 @@ read_nothing text lines began rest h none on all built p =
     on (read_only text lines began rest h none all (record { spells = p; steps = built.steps; built = built.built })).1
 
 pub at_none : {A : Type 0} (r : Option A) (P : Type 0) (Q : A → Type 0) → r ≡ None → P → MatchOption r P Q
-at_none r P Q e p = subst (λ (o : Option A). MatchOption o P Q) (sym e) p
+at_none {A = A} r P Q e p = subst (λ (o : Option A). MatchOption o P Q) (sym e) p
+
+-- an item that is there is so whatever stands for one that is not
+pub item_is : (es : List Event) (i : ℕ) (d e : Event) → i < length es → get_or es i d ≡ get_or es i e
+item_is [] i d e h = absurd (omega arith)
+item_is (x ∷ es) zero d e h = refl
+item_is (x ∷ es) (suc i) d e h = item_is es i d e (omega arith)
+
+-- a line pushed, whose push succeeded
+pub read_step : (text : List ℕ) (lines now : List Line) (began flag ok : Bool) (rest : List ℕ) (e : Event) (left : List ℕ) → IsReadTo text lines began rest
+    → may_come began e ≡ true → rest ≡ event_words e ++ 10 ∷ left → now ≡ (if ok then lines ++ Step e ∷ [] else lines) → ok ≡ true → flag ≡ is_begin e
+    → IsReadTo text now (began || flag) left
+read_step text lines now began flag ok rest e left h may p pushed good is =
+    subst (λ (ls : List Line). IsReadTo text ls (began || flag) left) (sym (pushed ∙ ap (λ (b : Bool). if b then lines ++ Step e ∷ [] else lines) good))
+    (subst (λ (f : Bool). IsReadTo text (lines ++ Step e ∷ []) (began || f) left) (sym is) (read_more text lines began rest e left h may p))
