@@ -1,5 +1,9 @@
 -- How what several writes take adds up to a text.
-use Rattle.std.proofs.Common.{◌≡◌, ℕ, zero, suc, ◌+◌, ◌-◌, ◌<◌, ◌≤◌, ◌^◌, min, List, [], ◌∷◌, ◌++◌, length, take, drop, get_or, Option, None, Some, option_map, refl, sym, ap, ◌∙◌, subst, arith, append_assoc, append-nil, length-append}
+use Rattle.std.proofs.Common.{◌≡◌, ℕ, zero, suc, ◌+◌, ◌-◌, ◌<◌, ◌≤◌, ◌^◌, min, List, [], ◌∷◌, ◌++◌, length, take, drop, get_or, Option, None, Some, option_map, refl, sym, ap, ◌∙◌, subst, arith, append_assoc, append-nil, length-append, zero-add, add-zero}
+use Rattle.std.proofs.lemmas.List.{take-append-le, take-append-drop}
+use Rattle.std.proofs.Math.Seq.{take-add}
+use Rattle.xv_base.specs.Hex.{hex}
+use Rattle.xv_base.proofs.Hexes.{hex-append}
 use Rattle.std.specs.List.{flat_map, range_with_len}
 use Rattle.xv_io.specs.Io.{CountRose, TookMore, TookFront, next_count}
 
@@ -15,6 +19,12 @@ took-none (Some r) = ap Some (sym (append-nil r))
 pub front-none : (a : Option (List ℕ)) (xs : List ℕ) → TookFront a a xs
 front-none a xs = (0, omega arith, took-none a)
 
+take_over : (xs ys rest : List ℕ) (n : ℕ) → n ≤ length ys → take (length xs + n) (xs ++ (ys ++ rest)) ≡ xs ++ take n ys
+take_over [] ys rest n h = ap (λ (k : ℕ). take k (ys ++ rest)) (zero-add n) ∙ take-append-le n ys rest h
+take_over (x ∷ xs) ys rest n h =
+    let e : length (x ∷ xs) + n ≡ suc (length xs + n) = omega arith in
+    ap (λ (k : ℕ). take k (x ∷ (xs ++ (ys ++ rest)))) e ∙ ap (λ (zs : List ℕ). x ∷ zs) (take_over xs ys rest n h)
+
 -- a front of a front, behind what was taken whole
 pub front-then : (a b c : Option (List ℕ)) (xs ys text : List ℕ) → TookMore a b xs → TookFront b c ys → (rest : List ℕ) → text ≡ xs ++ (ys ++ rest) → TookFront a c text
 front-then a b c xs ys text p (n, h, q) rest e = (
@@ -27,6 +37,37 @@ front-then a b c xs ys text p (n, h, q) rest e = (
 pub rose-then : (a b c : ℕ) → a ≤ b → CountRose b c → CountRose a c
 rose-then a b c h r = omega arith
 
--- the pieces of a list of numbers in a row
-pub range_parts : {A : Type 0} (f : ℕ → List A) (a n m : ℕ) → flat_map f (range_with_len a (n + m)) ≡ flat_map f (range_with_len a n) ++ flat_map f (range_with_len (a + n) m)
-range_parts f a n m = ?
+-- the pieces of numbers in a row
+pub range_parts : (f : ℕ → List ℕ) (a n m : ℕ) → flat_map f (range_with_len a (n + m)) ≡ flat_map f (range_with_len a n) ++ flat_map f (range_with_len (a + n) m)
+range_parts f a zero m =
+    ap (λ (k : ℕ). flat_map f (range_with_len a k)) (zero-add m) ∙ ap (λ (k : ℕ). flat_map f (range_with_len k m)) (sym (add-zero a))
+range_parts f a (suc n) m =
+    let e : suc n + m ≡ suc (n + m) = omega arith in
+    let g : a + 1 + n ≡ a + suc n = omega arith in
+    ap (λ (k : ℕ). flat_map f (range_with_len a k)) e ∙ ap (λ (zs : List ℕ). f a ++ zs) (range_parts f (a + 1) n m)
+    ∙ sym (append_assoc (f a) (flat_map f (range_with_len (a + 1) n)) (flat_map f (range_with_len (a + 1 + n) m)))
+    ∙ ap (λ (k : ℕ). (f a ++ flat_map f (range_with_len (a + 1) n)) ++ flat_map f (range_with_len k m)) g
+
+-- one piece more, and what follows it
+pub range_next : (f : ℕ → List ℕ) (n : ℕ) → flat_map f (range_with_len 0 (n + 1)) ≡ flat_map f (range_with_len 0 n) ++ f n
+range_next f n =
+    range_parts f 0 n 1 ∙ ap (λ (k : ℕ). flat_map f (range_with_len 0 n) ++ (f k ++ [])) (zero-add n)
+    ∙ ap (λ (zs : List ℕ). flat_map f (range_with_len 0 n) ++ zs) (append-nil (f n))
+
+pub range_rest : (f : ℕ → List ℕ) (n all : ℕ) → n < all → flat_map f (range_with_len 0 all) ≡ flat_map f (range_with_len 0 n) ++ (f n ++ flat_map f (range_with_len (n + 1) (all - n - 1)))
+range_rest f n all h =
+    let e : all ≡ n + suc (all - n - 1) = omega arith in
+    ap (λ (k : ℕ). flat_map f (range_with_len 0 k)) e ∙ range_parts f 0 n (suc (all - n - 1))
+    ∙ ap (λ (k : ℕ). flat_map f (range_with_len 0 n) ++ (f k ++ flat_map f (range_with_len (k + 1) (all - n - 1)))) (zero-add n)
+
+-- the digits of the bytes up to a place, and from there to the next
+pub hex_next : (bytes : List ℕ) (n next : ℕ) → n ≤ next → next ≤ length bytes → hex (take next bytes) ≡ hex (take n bytes) ++ hex (take (next - n) (drop n bytes))
+hex_next bytes n next h k =
+    let e : next ≡ n + (next - n) = omega arith in
+    ap (λ (i : ℕ). hex (take i bytes)) e ∙ ap hex (take-add n (next - n) bytes) ∙ hex-append (take n bytes) (take (next - n) (drop n bytes))
+
+pub hex_rest : (bytes : List ℕ) (n next : ℕ) → n ≤ next → next ≤ length bytes → hex bytes ≡ hex (take n bytes) ++ (hex (take (next - n) (drop n bytes)) ++ hex (drop next bytes))
+hex_rest bytes n next h k =
+    ap hex (sym (take-append-drop next bytes)) ∙ hex-append (take next bytes) (drop next bytes)
+    ∙ ap (λ (zs : List ℕ). zs ++ hex (drop next bytes)) (hex_next bytes n next h k)
+    ∙ append_assoc (hex (take n bytes)) (hex (take (next - n) (drop n bytes))) (hex (drop next bytes))
