@@ -120,13 +120,7 @@ impl MemDevice {
         ensures sized { IsSized (told self.old) }
         ensures sure { self.old.plan.writes ≡ [] → is_err result ≡ false }
     {
-        if self.writing.count() {
-            self.faults = one_more(self.faults);
-            return Err(Failed);
-        }
-        copy_in(&mut self.bytes, self.layout.place(unit) as usize, bytes);
-        self.writes[unit.0 as usize] += 1;
-        Ok(())
+        self.patch(unit, 0, bytes)
     }
 
     /// Writes the bytes of a unit from an offset on.
@@ -178,6 +172,7 @@ impl MemDevice {
     pub fn layout(&self) -> &Layout
         ensures exactly { result.now ≡ self.now.shape }
         ensures good { IsGood self.now.shape }
+        ensures sized { IsSized (told self.now) }
     {
         &self.layout
     }
