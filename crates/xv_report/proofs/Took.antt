@@ -1,7 +1,8 @@
 -- How what several writes take adds up to a text.
-use Rattle.std.proofs.Common.{◌≡◌, ℕ, zero, suc, ◌+◌, ◌-◌, ◌<◌, ◌≤◌, ◌^◌, min, List, [], ◌∷◌, ◌++◌, length, take, drop, get_or, Option, None, Some, option_map, refl, sym, ap, ◌∙◌, subst, arith, append_assoc, append-nil, length-append, zero-add, add-zero}
+use Rattle.std.proofs.Common.{◌≡◌, ℕ, zero, suc, ◌+◌, ◌-◌, ◌<◌, ◌≤◌, ◌^◌, min, List, [], ◌∷◌, ◌++◌, length, take, drop, decimal, get_or, Option, None, Some, option_map, refl, sym, ap, ◌∙◌, subst, arith, append_assoc, append-nil, length-append, zero-add, add-zero}
 use Rattle.std.proofs.lemmas.List.{take-append-le, take-append-drop}
 use Rattle.std.proofs.Math.Seq.{take-add}
+use Rattle.xv_report.specs.Texts.{full_line, unit_line, side_text}
 use Rattle.xv_base.specs.Hex.{hex}
 use Rattle.xv_base.proofs.Hexes.{hex-append}
 use Rattle.std.specs.List.{flat_map, range_with_len}
@@ -71,3 +72,54 @@ hex_rest bytes n next h k =
     ap hex (sym (take-append-drop next bytes)) ∙ hex-append (take next bytes) (drop next bytes)
     ∙ ap (λ (zs : List ℕ). zs ++ hex (drop next bytes)) (hex_next bytes n next h k)
     ∙ append_assoc (hex (take n bytes)) (hex (take (next - n) (drop n bytes))) (hex (drop next bytes))
+
+-- a text that is A ++ B is written by A and then B: what A takes whole and B takes a front of is a front of both
+pub front-first : (a b : Option (List ℕ)) (xs rest text : List ℕ) → TookFront a b xs → text ≡ xs ++ rest → TookFront a b text
+front-first a b xs rest text h e = front-then a a b [] xs text (took-none a) h rest e
+
+pub front-last : (a b c : Option (List ℕ)) (xs ys text : List ℕ) → TookMore a b xs → TookFront b c ys → text ≡ xs ++ ys → TookFront a c text
+front-last a b c xs ys text p h e = front-then a b c xs ys text p h [] (e ∙ ap (λ (zs : List ℕ). xs ++ zs) (sym (append-nil ys)))
+
+-- what was taken up to a unit, and one unit more
+pub range-took : (f : ℕ → List ℕ) (a b c : Option (List ℕ)) (n : ℕ) → TookMore a b (flat_map f (range_with_len 0 n)) → TookMore b c (f n) → TookMore a c (flat_map f (range_with_len 0 (n + 1)))
+range-took f a b c n p q =
+    subst (λ (t : List ℕ). TookMore a c t) (sym (range_next f n)) (took-both a b c (flat_map f (range_with_len 0 n)) (f n) p q)
+
+pub range-front : (f : ℕ → List ℕ) (a b c : Option (List ℕ)) (n all : ℕ) → n < all → TookMore a b (flat_map f (range_with_len 0 n)) → TookFront b c (f n) → TookFront a c (flat_map f (range_with_len 0 all))
+range-front f a b c n all h p q =
+    front-then a b c (flat_map f (range_with_len 0 n)) (f n) (flat_map f (range_with_len 0 all)) p q (flat_map f (range_with_len (n + 1) (all - n - 1))) (range_rest f n all h)
+
+-- a unit's line in three pieces
+pub line_parts : (side bytes : List ℕ) (unit : ℕ) → full_line side unit bytes ≡ (side ++ 32 ∷ decimal unit ++ 32 ∷ []) ++ (hex bytes ++ 10 ∷ [])
+line_parts side bytes unit =
+    append_assoc (side ++ 32 ∷ decimal unit) (32 ∷ hex bytes) (10 ∷ []) ∙ sym (append_assoc (side ++ 32 ∷ decimal unit) (32 ∷ []) (hex bytes ++ 10 ∷ []))
+
+-- the digits of one piece more
+pub hex-took : (a b c : Option (List ℕ)) (bytes : List ℕ) (n next : ℕ) (piece : List ℕ) → n ≤ next → next ≤ length bytes → TookMore a b (hex (take n bytes))
+    → piece ≡ hex (take (next - n) (drop n bytes)) → TookMore b c piece → TookMore a c (hex (take next bytes))
+hex-took a b c bytes n next piece h k p e q =
+    subst (λ (t : List ℕ). TookMore a c t) (sym (hex_next bytes n next h k))
+    (took-both a b c (hex (take n bytes)) (hex (take (next - n) (drop n bytes))) p (subst (λ (t : List ℕ). TookMore b c t) e q))
+
+pub hex-front : (a b c : Option (List ℕ)) (bytes : List ℕ) (n next : ℕ) (piece : List ℕ) → n ≤ next → next ≤ length bytes → TookMore a b (hex (take n bytes))
+    → piece ≡ hex (take (next - n) (drop n bytes)) → TookFront b c piece → TookFront a c (hex bytes)
+hex-front a b c bytes n next piece h k p e q =
+    front-then a b c (hex (take n bytes)) (hex (take (next - n) (drop n bytes))) (hex bytes) p (subst (λ (t : List ℕ). TookFront b c t) e q) (hex (drop next bytes)) (hex_rest bytes n next h k)
+
+pub at_text : (a b : Option (List ℕ)) (xs ys : List ℕ) → xs ≡ ys → TookFront a b xs → TookFront a b ys
+at_text a b xs ys e h = subst (λ (t : List ℕ). TookFront a b t) e h
+
+pub took-text : (a b : Option (List ℕ)) (xs ys : List ℕ) → xs ≡ ys → TookMore a b xs → TookMore a b ys
+took-text a b xs ys e h = subst (λ (t : List ℕ). TookMore a b t) e h
+
+pub front-whole : (a b : Option (List ℕ)) (xs : List ℕ) → TookMore a b xs → TookFront a b xs
+front-whole a b xs p = front-last a b b xs [] xs p (front-none b []) (sym (append-nil xs))
+
+-- the line of each unit of one side
+abbrev pub line_of : List ℕ → List (List ℕ) → ℕ → List ℕ
+line_of side contents unit = unit_line side unit (get_or contents unit [])
+
+-- the lines of all units were taken
+pub side-front : (a b : Option (List ℕ)) (side : List ℕ) (contents : List (List ℕ)) (n : ℕ) → n ≡ length contents → TookMore a b (flat_map (line_of side contents) (range_with_len 0 n)) → TookFront a b (side_text side contents)
+side-front a b side contents n e p =
+    subst (λ (k : ℕ). TookFront a b (flat_map (line_of side contents) (range_with_len 0 k))) e (front-whole a b (flat_map (line_of side contents) (range_with_len 0 n)) p)
