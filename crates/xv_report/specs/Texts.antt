@@ -29,28 +29,40 @@ stun_word (Some n) = decimal n
 abbrev pub row : List ℕ → List ℕ → List ℕ
 row name value = name ++ 32 ∷ value ++ 10 ∷ []
 
-abbrev pub report_text : Totals → List ℕ
-report_text t =
+-- where the migration stands
+abbrev pub state_rows : Totals → List ℕ
+state_rows t =
     row (codes "phase") (phase_word t.phase)
     ++ row (codes "owner") (owner_word t.phase)
     ++ row (codes "history") (decimal t.history)
     ++ row (codes "faulted") (decimal t.faulted)
     ++ row (codes "journal") (decimal t.journal)
     ++ row (codes "stun") (stun_word t.stun)
-    ++ row (codes "copied") (decimal t.copied)
+
+-- how much was done
+abbrev pub work_rows : Totals → List ℕ
+work_rows t =
+    row (codes "copied") (decimal t.copied)
     ++ row (codes "rounds") (decimal t.rounds)
     ++ row (codes "messages") (decimal t.messages)
     ++ row (codes "mirrors") (decimal t.mirrors)
     ++ row (codes "applied") (decimal t.applied)
     ++ row (codes "credit") (decimal t.credit)
 
+abbrev pub report_text : Totals → List ℕ
+report_text t = state_rows t ++ work_rows t
+
 -- whether all bytes are zero
 abbrev pub is_zero : List ℕ → Bool
 is_zero bytes = list_all (λ b. b == 0) bytes
 
--- a unit's line, with all its bytes; none where they are all zero
+-- a line with all bytes of a unit
+abbrev pub full_line : List ℕ → ℕ → List ℕ → List ℕ
+full_line side unit bytes = side ++ 32 ∷ decimal unit ++ 32 ∷ hex bytes ++ 10 ∷ []
+
+-- a unit's line; none where its bytes are all zero
 abbrev pub unit_line : List ℕ → ℕ → List ℕ → List ℕ
-unit_line side unit bytes = if is_zero bytes then [] else side ++ 32 ∷ decimal unit ++ 32 ∷ hex bytes ++ 10 ∷ []
+unit_line side unit bytes = if is_zero bytes then [] else full_line side unit bytes
 
 -- the lines of one side, in rising order of the units
 abbrev pub side_text : List ℕ → List (List ℕ) → List ℕ

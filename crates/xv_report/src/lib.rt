@@ -4,6 +4,8 @@
 // rely on this: a text is written whole or a write failed, and then a front of it has been taken.
 #![tactic(auto)]
 
+mod image;
 mod report;
 
+pub use image::write_image;
 pub use report::write_report;

@@ -1,11 +1,11 @@
 //! The report of a migration.
 
-ghost use Rattle.std.specs.Prelude.{◌≤◌, OnOk, OnErr};
+ghost use Rattle.std.specs.Prelude.{◌≡◌, ◌≤◌, ◌+◌, ◌++◌, Option, length, codes, decimal, OnOk, OnErr};
 ghost use Rattle.xv_io.specs.Io.{CountRose, TookFront, TookMore};
-ghost use Rattle.xv_report.specs.Texts.{report_text};
+ghost use Rattle.xv_report.specs.Texts.{row, phase_word, owner_word, stun_word, state_rows, work_rows, report_text};
 
-use xv_base::Totals;
-use xv_io::{Sink, WriteFault};
+use xv_base::{LineBuf, Phase, Totals};
+use xv_io::{Sink, WriteFault, write_text};
 
 /// Writes the twelve lines of the report. Takes no memory.
 ///
@@ -16,6 +16,108 @@ pub fn write_report<O: Sink>(totals: &Totals, sink: &mut O) -> Result<(), WriteF
     ensures front { TookFront (O.taken sink.old) (O.taken sink.new) (report_text totals.now) }
     ensures counts { O.faults sink.old ≤ O.faults sink.new }
 {
-    let _ = (totals, sink);
-    Err(WriteFault)
+    write_text(sink, report(totals).bytes())
+}
+
+// All twelve lines together are at most 230 bytes.
+fn report(totals: &Totals) -> LineBuf
+    ensures { result ≡ report_text totals.now }
+{
+    let mut text = LineBuf::new();
+    push_state(&mut text, totals);
+    push_work(&mut text, totals);
+    text
+}
+
+fn push_state(text: &mut LineBuf, totals: &Totals)
+    requires { length text.old ≤ 100 }
+    ensures exactly { text.new ≡ text.old ++ state_rows totals.now }
+    ensures few { length text.new ≤ length text.old + 120 }
+{
+    push_row(text, b"phase", phase_word(totals.phase));
+    push_row(text, b"owner", owner_word(totals.phase));
+    push_number(text, b"history", totals.history);
+    push_number(text, b"faulted", totals.faulted);
+    push_long(text, b"journal", totals.journal);
+    push_stun(text, totals.stun);
+}
+
+fn push_work(text: &mut LineBuf, totals: &Totals)
+    requires { length text.old ≤ 130 }
+    ensures exactly { text.new ≡ text.old ++ work_rows totals.now }
+    ensures few { length text.new ≤ length text.old + 120 }
+{
+    push_number(text, b"copied", totals.copied);
+    push_number(text, b"rounds", totals.rounds);
+    push_number(text, b"messages", totals.messages);
+    push_number(text, b"mirrors", totals.mirrors);
+    push_number(text, b"applied", totals.applied);
+    push_number(text, b"credit", totals.credit);
+}
+
+fn phase_word(phase: Phase) -> &'static [u8]
+    ensures exactly { result.now ≡ phase_word phase }
+    ensures few { length result.now ≤ 12 }
+{
+    match phase {
+        Phase::Running => b"running",
+        Phase::Stunned => b"stunned",
+        Phase::Switched => b"switched",
+        Phase::Cancelled => b"cancelled",
+        Phase::Failed => b"failed",
+    }
+}
+
+fn owner_word(phase: Phase) -> &'static [u8]
+    ensures exactly { result.now ≡ owner_word phase }
+    ensures few { length result.now ≤ 12 }
+{
+    match phase {
+        Phase::Switched => b"destination",
+        Phase::Running | Phase::Stunned | Phase::Cancelled | Phase::Failed => b"source",
+    }
+}
+
+fn push_stun(text: &mut LineBuf, stun: Option<u32>)
+    requires { length text.old ≤ 230 }
+    ensures exactly { text.new ≡ text.old ++ row (codes "stun") (stun_word stun) }
+    ensures few { length text.new ≤ length text.old + 16 }
+{
+    match stun {
+        Some(length) => push_number(text, b"stun", length),
+        None => push_row(text, b"stun", b"none"),
+    }
+}
+
+fn push_number(text: &mut LineBuf, name: &[u8], n: u32)
+    requires { length text.old + length name.now + 12 ≤ 256 }
+    ensures exactly { text.new ≡ text.old ++ row name.now (decimal n) }
+    ensures few { length text.new ≤ length text.old + length name.now + 12 }
+{
+    text.push_all(name);
+    text.push(b' ');
+    text.push_number(n);
+    text.push(b'\n');
+}
+
+fn push_long(text: &mut LineBuf, name: &[u8], n: u64)
+    requires { length text.old + length name.now + 22 ≤ 256 }
+    ensures exactly { text.new ≡ text.old ++ row name.now (decimal n) }
+    ensures few { length text.new ≤ length text.old + length name.now + 22 }
+{
+    text.push_all(name);
+    text.push(b' ');
+    text.push_long(n);
+    text.push(b'\n');
+}
+
+fn push_row(text: &mut LineBuf, name: &[u8], value: &[u8])
+    requires { length text.old + length name.now + length value.now + 2 ≤ 256 }
+    ensures exactly { text.new ≡ text.old ++ row name.now value.now }
+    ensures few { length text.new ≤ length text.old + length name.now + length value.now + 2 }
+{
+    text.push_all(name);
+    text.push(b' ');
+    text.push_all(value);
+    text.push(b'\n');
 }

@@ -1,0 +1,118 @@
+//! The image of a migration: the bytes of both sides.
+
+ghost use Rattle.std.specs.Prelude.{◌≡◌, ◌≤◌, ◌+◌, ◌++◌, ◌∷◌, [], length, decimal, OnOk, OnErr};
+ghost use Rattle.xv_base.specs.Hex.{hex};
+ghost use Rattle.xv_base.specs.Units.{units};
+ghost use Rattle.xv_io.specs.Io.{CountRose, TookFront, TookMore};
+ghost use Rattle.xv_report.specs.Texts.{is_zero, full_line, unit_line, side_text, image_text};
+
+use xv_base::{Layout, LineBuf, UnitId};
+use xv_device::MemDevice;
+use xv_io::{Sink, WriteFault, write_text};
+
+/// How many bytes of a unit are written at once.
+const PIECE: usize = 64;
+
+/// Writes a line for each unit whose bytes are not all zero, first those of the source and then those of the
+/// destination. Takes no memory.
+///
+/// Errors: `WriteFault` where a write failed; the bytes taken are then a front of the image.
+pub fn write_image<O: Sink>(
+    layout: &Layout,
+    source: &MemDevice,
+    dest: &MemDevice,
+    sink: &mut O,
+) -> Result<(), WriteFault>
+    requires source_layout { source.now.shape ≡ layout.now }
+    requires dest_layout { dest.now.shape ≡ layout.now }
+    ensures whole { OnOk result (TookMore (O.taken sink.old) (O.taken sink.new) (image_text source.now.contents dest.now.contents)) }
+    ensures fault { OnErr result (CountRose (O.faults sink.old) (O.faults sink.new)) }
+    ensures front { TookFront (O.taken sink.old) (O.taken sink.new) (image_text source.now.contents dest.now.contents) }
+    ensures counts { O.faults sink.old ≤ O.faults sink.new }
+{
+    let _ = layout;
+    write_side(b"src", source, sink)?;
+    write_side(b"dst", dest, sink)
+}
+
+fn write_side<O: Sink>(side: &[u8], device: &MemDevice, sink: &mut O) -> Result<(), WriteFault>
+    requires { length side.now ≤ 8 }
+    ensures whole { OnOk result (TookMore (O.taken sink.old) (O.taken sink.new) (side_text side.now device.now.contents)) }
+    ensures fault { OnErr result (CountRose (O.faults sink.old) (O.faults sink.new)) }
+    ensures front { TookFront (O.taken sink.old) (O.taken sink.new) (side_text side.now device.now.contents) }
+    ensures counts { O.faults sink.old ≤ O.faults sink.new }
+{
+    for unit in 0..device.layout().units() {
+        write_unit(side, unit, device.content(UnitId(unit)), sink)?;
+    }
+    Ok(())
+}
+
+fn write_unit<O: Sink>(side: &[u8], unit: u32, bytes: &[u8], sink: &mut O) -> Result<(), WriteFault>
+    requires { length side.now ≤ 8 }
+    ensures whole { OnOk result (TookMore (O.taken sink.old) (O.taken sink.new) (unit_line side.now unit bytes.now)) }
+    ensures fault { OnErr result (CountRose (O.faults sink.old) (O.faults sink.new)) }
+    ensures front { TookFront (O.taken sink.old) (O.taken sink.new) (unit_line side.now unit bytes.now) }
+    ensures counts { O.faults sink.old ≤ O.faults sink.new }
+{
+    if is_zero(bytes) {
+        Ok(())
+    } else {
+        write_line(side, unit, bytes, sink)
+    }
+}
+
+fn write_line<O: Sink>(side: &[u8], unit: u32, bytes: &[u8], sink: &mut O) -> Result<(), WriteFault>
+    requires { length side.now ≤ 8 }
+    ensures whole { OnOk result (TookMore (O.taken sink.old) (O.taken sink.new) (full_line side.now unit bytes.now)) }
+    ensures fault { OnErr result (CountRose (O.faults sink.old) (O.faults sink.new)) }
+    ensures front { TookFront (O.taken sink.old) (O.taken sink.new) (full_line side.now unit bytes.now) }
+    ensures counts { O.faults sink.old ≤ O.faults sink.new }
+{
+    write_text(sink, unit_head(side, unit).bytes())?;
+    write_hex(bytes, sink)?;
+    write_text(sink, b"\n")
+}
+
+fn write_hex<O: Sink>(bytes: &[u8], sink: &mut O) -> Result<(), WriteFault>
+    ensures whole { OnOk result (TookMore (O.taken sink.old) (O.taken sink.new) (hex bytes.now)) }
+    ensures fault { OnErr result (CountRose (O.faults sink.old) (O.faults sink.new)) }
+    ensures front { TookFront (O.taken sink.old) (O.taken sink.new) (hex bytes.now) }
+    ensures counts { O.faults sink.old ≤ O.faults sink.new }
+{
+    let mut done = 0;
+    while done < bytes.len() {
+        let next = bytes.len().min(done + PIECE);
+        write_text(sink, digits(&bytes[done..next]).bytes())?;
+        done = next;
+    }
+    Ok(())
+}
+
+// What stands before a unit's bytes.
+fn unit_head(side: &[u8], unit: u32) -> LineBuf
+    requires { length side.now ≤ 8 }
+    ensures { result ≡ side.now ++ 32 ∷ decimal unit ++ 32 ∷ [] }
+{
+    let mut line = LineBuf::new();
+    line.push_all(side);
+    line.push(b' ');
+    line.push_number(unit);
+    line.push(b' ');
+    line
+}
+
+fn digits(bytes: &[u8]) -> LineBuf
+    requires { length bytes.now ≤ 64 }
+    ensures { result ≡ hex bytes.now }
+{
+    let mut line = LineBuf::new();
+    line.push_hex(bytes);
+    line
+}
+
+fn is_zero(bytes: &[u8]) -> bool
+    ensures { result ≡ is_zero bytes.now }
+{
+    bytes.iter().all(|byte| *byte == 0)
+}
