@@ -1,10 +1,11 @@
 -- The jobs that are built so far: one disk, one guest and one stream, and the guest only writes whole blocks.
-use Rattle.std.specs.Prelude.{◌≡◌, ◌≤◌, ◌<◌, ℕ, List, [], length, Option, Some, None, get_or}
+use Rattle.std.specs.Prelude.{◌≡◌, ◌≤◌, ◌<◌, ℕ, List, [], ◌∷◌, length, Option, Some, None, get_or}
 use Rattle.xv_base.specs.declared.pattern.UnitOp.{UnitOp}
 use Rattle.xv_base.specs.declared.pattern.Init.{Init}
 use Rattle.xv_base.specs.declared.limits.Config.{Config}
 use Rattle.xv_base.specs.declared.limits.Fault.{Fault}
-use Rattle.xv_base.specs.Units.{Shape, units, size}
+use Rattle.xv_base.specs.Units.{Shape, shape_of, units, size, blocks}
+use Rattle.xv_base.specs.Layout.{IsGood}
 use Rattle.xv_model.specs.Job.{Job, guest_count, trace, operation}
 
 -- the job of these parts, whose streams carry frames
@@ -34,6 +35,26 @@ pub record IsBlockWrite (shape : Shape) (op : UnitOp) : Type 0 where
   pub to_end : op.len ≡ size shape op.unit.0
   pub writes : op.write ≡ Some (written op)
   pub pattern : IsPattern (written op)
+
+-- a machine of one disk, which has a block
+abbrev pub one_disk : ℕ → ℕ → ℕ → ℕ → Shape
+one_disk pages page_size blocks block_size =
+    shape_of pages page_size (record { blocks = blocks; block_size = block_size } ∷ [])
+
+pub record IsOneDisk (shape : Shape) : Type 0 where
+  pub good : IsGood shape
+  pub one : length shape.disks ≡ 1
+  pub some_blocks : 1 ≤ blocks shape.disks 0
+
+-- the limits of one stream, one block in a region and one round, without a cancel number
+abbrev pub built_config : ℕ → ℕ → Config
+built_config credit outbox =
+    record { streams = 1; credit = credit; outbox = outbox; region = 1; rounds = 1; dirty = 0; cancel = None }
+
+pub record IsBuiltConfig (config : Config) : Type 0 where
+  pub built : config ≡ built_config config.credit config.outbox
+  pub credit : (1 ≤ config.credit) × (config.credit ≤ 1024)
+  pub outbox : (1 ≤ config.outbox) × (config.outbox ≤ 1024)
 
 pub record IsBuilt (job : Job) : Type 0 where
   pub format : (job.format ≡ 1) × (job.group ≡ 1)

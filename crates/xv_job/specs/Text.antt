@@ -1,5 +1,7 @@
 -- What a job is as text.
-use Rattle.std.specs.Prelude.{◌≡◌, ℕ, ◌/◌, ◌%◌, ◌+◌, nat_lt, if◌then◌else◌, List, [], ◌∷◌, ◌++◌, map, decimal, codes, Result, Ok, Err}
+use Rattle.std.specs.Prelude.{ℕ, ◌/◌, ◌%◌, ◌+◌, nat_lt, if◌then◌else◌, List, [], ◌∷◌, ◌++◌, map, decimal, codes, Result, Ok, Err, Bool, ◌||◌}
+use Rattle.std.specs.Char.{is_ascii_digit}
+use Rattle.std.specs.Int.{is_in_range}
 use Rattle.std.specs.List.{flat_map}
 use Rattle.xv_base.specs.declared.unit.DiskShape.{DiskShape}
 use Rattle.xv_base.specs.declared.pattern.UnitOp.{UnitOp}
@@ -25,6 +27,9 @@ text_of lines = flat_map line lines
 abbrev pub hex_digit : ℕ → ℕ
 hex_digit n = if nat_lt n 10 then 48 + n else 87 + n
 
+abbrev pub is_hex_digit : ℕ → Bool
+is_hex_digit c = is_ascii_digit c || is_in_range 97 102 c
+
 abbrev pub hex : List ℕ → List ℕ
 hex pattern = flat_map (λ byte. hex_digit (byte / 16) ∷ hex_digit (byte % 16) ∷ []) pattern
 
@@ -34,6 +39,9 @@ page_fields shape = codes "pages" ∷ decimal shape.pages ∷ decimal shape.page
 
 abbrev pub disk_fields : DiskShape → List (List ℕ)
 disk_fields disk = codes "disk" ∷ decimal disk.blocks ∷ decimal disk.block_size ∷ []
+
+abbrev pub layout_lines : Shape → List (List (List ℕ))
+layout_lines shape = page_fields shape ∷ map disk_fields shape.disks
 
 abbrev pub limit_lines : Config → List (List (List ℕ))
 limit_lines config =
@@ -56,9 +64,16 @@ guest_lines shape ops = (codes "guest" ∷ []) ∷ map (write_fields shape) ops
 abbrev pub job_lines : Job → List (List (List ℕ))
 job_lines job =
     (codes "job" ∷ decimal job.format ∷ [])
-    ∷ page_fields job.shape
-    ∷ (map disk_fields job.shape.disks
+    ∷ (layout_lines job.shape
     ++ (limit_lines job.config ++ (flat_map (guest_lines job.shape) job.traces ++ (codes "end" ∷ []) ∷ [])))
+
+-- the lines of a built job before its operations, and from there to its end
+abbrev pub head_lines : Shape → Config → List (List (List ℕ))
+head_lines shape config =
+    (codes "job" ∷ decimal 1 ∷ []) ∷ (layout_lines shape ++ (limit_lines config ++ (codes "guest" ∷ []) ∷ []))
+
+abbrev pub trace_lines : Shape → List UnitOp → List (List (List ℕ))
+trace_lines shape ops = map (write_fields shape) ops ++ (codes "end" ∷ []) ∷ []
 
 -- the text of a job without a cancel number, faults and initial contents, whose guests only write whole blocks
 abbrev pub job_text : Job → List ℕ

@@ -6,7 +6,9 @@
 // is the text of the job, no other job has a text that begins the same input, and where nothing is read none has.
 #![tactic(auto)]
 
+mod fields;
 mod job;
+mod lines;
 mod read;
 
 pub use job::Job;

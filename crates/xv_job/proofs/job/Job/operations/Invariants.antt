@@ -1,5 +1,5 @@
 use Rattle.std.proofs.Common.{◌≡◌, ◌≤◌, length, take, sum_by}
-use Rattle.xv_model.specs.Job.{IsGoodJob, operation_count}
+use Rattle.xv_model.specs.Job.{operation_count}
 use Rattle.xv_job.proofs.job.Job.operations.Given as goal
 
 abbrev pub invariant-loop-trace : goal.invariant-loop-trace

@@ -1,0 +1,4 @@
+pub mod Runs
+pub mod Flat
+pub mod Writes
+pub mod Whole
