@@ -1,9 +1,11 @@
 // The plain data that every crate of the repository speaks of: units and their layout, patterns,
 // operations, events and their answers, faults, limits, statuses, lines of text.
 //
-// Contracts see a `Layout` as its shape, a `Pattern` as its bytes and a `LineBuf` as its bytes; every other
-// type here is seen as its fields. The layer above may rely on one law: the units of a layout are the pages
-// and then the blocks of each disk, each in range and with its size, so that they partition its bytes.
+// Contracts see a `Layout` as its shape, and a `Pattern` and a `LineBuf` as their bytes; every other type here
+// is seen as its fields. All are plain values that can be copied, and take no memory. The layer above may rely on
+// this: a shape that a layout has is good (each accessor says so), and of every good shape the laws hold. Its
+// numbers are within the limits; its units, the pages and then the blocks of each disk, lie one after another
+// over all bytes; each unit past the pages is one block of one disk; and some unit has the greatest size.
 #![tactic(auto)]
 
 mod answer;
@@ -30,3 +32,6 @@ pub use pattern::{Init, Pattern, UnitOp};
 pub use status::Status;
 pub use text::{LineBuf, LineFault, LineWhy, TextError};
 pub use unit::{DiskShape, Failed, GuestId, NoMemory, UnitId};
+
+#[cfg(test)]
+mod tests;

@@ -103,13 +103,22 @@ impl LineBuf {
         }
     }
 
-    /// Appends a number in decimal digits, for which there is room.
+    /// Appends a number in decimal digits, where there is room for ten.
     pub fn push_number(&mut self, n: u32)
+        requires { length self.old + 10 ≤ 256 }
+        ensures exactly { self.new ≡ self.old ++ decimal n }
+        ensures few { length self.new ≤ length self.old + 10 }
+    {
+        self.push_digits(n);
+    }
+
+    /// Appends the digits of a number, for which there is room.
+    fn push_digits(&mut self, n: u32)
         requires { length self.old + length (decimal n) ≤ 256 }
         ensures { self.new ≡ self.old ++ decimal n }
     {
         if n >= 10 {
-            self.push_number(n / 10);
+            self.push_digits(n / 10);
         }
         self.push(b'0' + (n % 10) as u8);
     }

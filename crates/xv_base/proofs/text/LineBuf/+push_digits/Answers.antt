@@ -1,7 +1,7 @@
 use Rattle.std.proofs.Common.{◌≡◌, ℕ, ◌+◌, ◌<◌, ◌≤◌, ◌/◌, ◌%◌, ◌^◌, [], ◌∷◌, ◌++◌, length, decimal, List, arith, ap, sym, ◌∙◌, append_assoc, length-append}
 use Rattle.std.proofs.lemmas.Fmt.{decimal_step, decimal_digit, decimal_nonempty}
-use Rattle.xv_base.proofs.text.LineBuf.+push_number.Goals as goal
-use Rattle.xv_base.proofs.text.LineBuf.+push_number.Goals.{then-n-ge10, else-n-ge10}
+use Rattle.xv_base.proofs.text.LineBuf.+push_digits.Goals as goal
+use Rattle.xv_base.proofs.text.LineBuf.+push_digits.Goals.{then-n-ge10, else-n-ge10}
 
 -- one digit more than the digits of the tenth
 length-decimal_step : (n : ℕ) → 10 ≤ n → n < 2 ^ 64 → length (decimal n) ≡ length (decimal (n / 10)) + 1
@@ -20,17 +20,17 @@ digits_more n was now last d h l e f g =
 digits_one : (n : ℕ) (was last : List ℕ) (d : ℕ) → n < 10 → last ≡ was ++ d ∷ [] → d ≡ 48 + n → last ≡ was ++ decimal n
 digits_one n was last d h f g = f ∙ ap (λ k. was ++ k ∷ []) g ∙ ap (λ xs. was ++ xs) (sym (decimal_digit n h))
 
-pub push_number-requires : goal.push_number-requires
-push_number-requires t c = room_more c.args.n t (length c.args.self.now) (omega arith) (omega arith) (omega arith) c.requires
+pub push_digits-requires : goal.push_digits-requires
+push_digits-requires t c = room_more c.args.n t (length c.args.self.now) (omega arith) (omega arith) (omega arith) c.requires
 
 pub push-requires : goal.push-requires
 push-requires t c = elim c.if-n-ge10.branch [
-  | then-n-ge10 w ↦ omega (arith, ap length w.self-is, ap length w.push_number.ensures, length-append c.args.self.now (decimal (c.args.n / 10)), length-decimal_step c.args.n (omega arith) (omega arith))
+  | then-n-ge10 w ↦ omega (arith, ap length w.self-is, ap length w.push_digits.ensures, length-append c.args.self.now (decimal (c.args.n / 10)), length-decimal_step c.args.n (omega arith) (omega arith))
   | else-n-ge10 w ↦ omega (arith, ap length w.self-is, decimal_nonempty c.args.n (omega arith))
 ]
 
 pub returns : goal.returns
 returns t c = elim c.if-n-ge10.branch [
-  | then-n-ge10 w ↦ digits_more c.args.n c.args.self.now c.if-n-ge10.self c.push.new.self _ (omega arith) (omega arith) (w.self-is ∙ w.push_number.ensures) c.push.ensures (omega arith)
+  | then-n-ge10 w ↦ digits_more c.args.n c.args.self.now c.if-n-ge10.self c.push.new.self _ (omega arith) (omega arith) (w.self-is ∙ w.push_digits.ensures) c.push.ensures (omega arith)
   | else-n-ge10 w ↦ digits_one c.args.n c.args.self.now c.push.new.self _ (omega arith) (c.push.ensures ∙ ap (λ (xs : List ℕ). xs ++ (48 + c.args.n % 10) ∷ []) w.self-is) (omega arith)
 ]
