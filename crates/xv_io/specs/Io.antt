@@ -1,5 +1,5 @@
 -- What a read does to the bytes that are left, what a write does to the bytes taken, and what counts as a rise.
-use Rattle.std.specs.Prelude.{◌≡◌, ◌↔◌, ℕ, ◌+◌, ◌-◌, ◌^◌, ◌≤◌, min, List, [], ◌++◌, length, take, Option, None, Some, option_map, ⊤}
+use Rattle.std.specs.Prelude.{◌≡◌, ◌↔◌, ℕ, ◌+◌, ◌-◌, ◌^◌, ◌≤◌, min, List, [], ◌++◌, length, take, Option, None, Some, option_map, Result, is_err, if◌then◌else◌, ⊤}
 
 -- one more, in a count that stands still at the last value of 64 bits
 abbrev pub next_count : ℕ → ℕ
@@ -8,6 +8,10 @@ next_count n = min (n + 1) (2 ^ 64 - 1)
 -- a count rose, or stands at its last value
 abbrev pub CountRose : ℕ → ℕ → Type 0
 CountRose old new = next_count old ≤ new
+
+-- the count of faults after a call: one more where the call failed
+abbrev pub faults_after : {T E : Type 0} → Result T E → ℕ → ℕ
+faults_after result old = if is_err result then next_count old else old
 
 -- `bytes` were the first ones left, and the rest is left
 abbrev pub GaveFirst : Option (List ℕ) → Option (List ℕ) → List ℕ → Type 0

@@ -9,6 +9,7 @@
 
 mod count;
 mod memory;
+mod plan;
 mod reading;
 mod sink;
 mod source;

@@ -1,10 +1,10 @@
 //! A source and a sink in memory, whose calls fail by a plan.
 
-ghost use Rattle.std.specs.Prelude.{◌≡◌, ◌↔◌, ◌<◌, ◌≤◌, ◌-◌, ◌++◌, ◌||◌, [], length, take, min, IfOk, OnErr, is_err, nat_le, if◌then◌else◌};
-ghost use Rattle.xv_io.specs.Io.{next_count};
+ghost use Rattle.std.specs.Prelude.{◌≡◌, ◌↔◌, ◌<◌, ◌≤◌, ◌-◌, ◌++◌, ◌||◌, [], length, take, min, IfOk, OnErr, is_err, nat_le};
+ghost use Rattle.xv_io.specs.Io.{faults_after, next_count};
 ghost use Rattle.xv_io.specs.Memory.{is_listed};
 
-use crate::count::{is_to_fail, one_more};
+use crate::plan::Plan;
 use crate::sink::Sink;
 use crate::source::Source;
 use std::alloc::{AllocError, Global};
@@ -17,9 +17,7 @@ pub struct MemSource {
     bytes: Vec<u8>,
     at: usize,
     piece: u32,
-    fails: Vec<u32>,
-    calls: u64,
-    faults: u64,
+    plan: Plan,
 }
 
 impl Model for MemSource {
@@ -28,7 +26,8 @@ impl Model for MemSource {
 
     ghost Value = { SourceState };
 
-    ghost view = { λ s. record { left = drop s.at s.bytes.items; piece = s.piece; fails = s.fails.items; calls = s.calls; faults = s.faults } };
+    ghost view = { λ s. record
+        { left = drop s.at s.bytes.items; piece = s.piece; fails = s.plan.fails.items; calls = s.plan.calls; faults = s.plan.faults } };
 
     ghost invariant = { λ s. (s.at ≤ length s.bytes.items) × (0 < s.piece) };
 }
@@ -43,15 +42,14 @@ impl MemSource {
         fails: &[u32],
     ) -> Result<MemSource, NoMemory>
         requires { 0 < piece }
-        ensures { IfOk result (λ s. s ≡ record { left = bytes.now; piece = piece; fails = fails.now; calls = 0; faults = 0 }) }
+        ensures { IfOk result (λ s. s ≡ record
+            { left = bytes.now; piece = piece; fails = fails.now; calls = 0; faults = 0 }) }
     {
         Ok(MemSource {
             bytes: Vec::from_slice(alloc, bytes).map_err(no_memory)?,
             at: 0,
             piece,
-            fails: Vec::from_slice(alloc, fails).map_err(no_memory)?,
-            calls: 0,
-            faults: 0,
+            plan: Plan::new(alloc, fails)?,
         })
     }
 }
@@ -68,21 +66,18 @@ impl Source for MemSource {
     fn read(&mut self, into: &mut [u8]) -> Result<usize, Failed>
         requires { 0 < length into.old }
         ensures fails { is_err result ≡ is_listed self.old.fails self.new.calls }
-        ensures amount { IfOk result (λ n. n ≡ min (length self.old.left) (min self.old.piece (length into.old))) }
+        ensures amount { IfOk result
+            (λ n. n ≡ min (length self.old.left) (min self.old.piece (length into.old))) }
         ensures gives { IfOk result (λ n. self.old.left ≡ take n into.new ++ self.new.left) }
         ensures ends { IfOk result (λ n. (n ≡ 0) ↔ (self.old.left ≡ [])) }
         ensures stays { OnErr result (self.new.left ≡ self.old.left) }
         ensures calls { self.new.calls ≡ next_count self.old.calls }
         ensures counts { self.old.faults ≤ self.new.faults }
-        ensures faults { self.new.faults ≡ (if is_err result then next_count self.old.faults else self.old.faults) }
+        ensures faults { self.new.faults ≡ faults_after result self.old.faults }
         ensures piece { self.new.piece ≡ self.old.piece }
         ensures plan { self.new.fails ≡ self.old.fails }
     {
-        self.calls = one_more(self.calls);
-        if is_to_fail(&self.fails, self.calls) {
-            self.faults = one_more(self.faults);
-            return Err(Failed);
-        }
+        self.plan.begin()?;
         let n = copy_front(&self.bytes[self.at..], self.piece as usize, into);
         self.at += n;
         Ok(n)
@@ -95,9 +90,7 @@ pub struct MemSink {
     taken: Vec<u8>,
     room: u32,
     piece: u32,
-    fails: Vec<u32>,
-    calls: u64,
-    faults: u64,
+    plan: Plan,
 }
 
 impl Model for MemSink {
@@ -106,7 +99,8 @@ impl Model for MemSink {
 
     ghost Value = { SinkState };
 
-    ghost view = { λ s. record { taken = s.taken.items; room = s.room; piece = s.piece; fails = s.fails.items; calls = s.calls; faults = s.faults } };
+    ghost view = { λ s. record
+        { taken = s.taken.items; room = s.room; piece = s.piece; fails = s.plan.fails.items; calls = s.plan.calls; faults = s.plan.faults } };
 
     ghost invariant = { λ s. (vec_len s.taken ≤ s.room) × (s.room ≤ vec_capacity s.taken) × (0 < s.piece) };
 }
@@ -116,15 +110,14 @@ impl MemSink {
     /// the calls of the numbers in `fails`, from 1, fail; writes and flushes are numbered together.
     pub fn new(alloc: Global, room: u32, piece: u32, fails: &[u32]) -> Result<MemSink, NoMemory>
         requires { 0 < piece }
-        ensures { IfOk result (λ s. s ≡ record { taken = []; room = room; piece = piece; fails = fails.now; calls = 0; faults = 0 }) }
+        ensures { IfOk result (λ s. s ≡ record
+            { taken = []; room = room; piece = piece; fails = fails.now; calls = 0; faults = 0 }) }
     {
         Ok(MemSink {
             taken: Vec::with_capacity(alloc, room as usize).map_err(no_memory)?,
             room,
             piece,
-            fails: Vec::from_slice(alloc, fails).map_err(no_memory)?,
-            calls: 0,
-            faults: 0,
+            plan: Plan::new(alloc, fails)?,
         })
     }
 
@@ -147,23 +140,24 @@ impl Sink for MemSink {
     /// the plan has the call's number, or there is no room.
     fn write(&mut self, bytes: &[u8]) -> Result<usize, Failed>
         requires { 0 < length bytes.now }
-        ensures fails { is_err result ≡ (is_listed self.old.fails self.new.calls || nat_le self.old.room (length self.old.taken)) }
+        ensures fails { is_err result
+            ≡ (is_listed self.old.fails self.new.calls || nat_le self.old.room (length self.old.taken)) }
         ensures some { IfOk result (λ n. 0 < n) }
-        ensures amount { IfOk result (λ n. n ≡ min (length bytes.now) (min self.old.piece (self.old.room - length self.old.taken))) }
+        ensures amount { IfOk result
+            (λ n. n ≡ min (length bytes.now) (min self.old.piece (self.old.room - length self.old.taken))) }
         ensures takes { IfOk result (λ n. self.new.taken ≡ self.old.taken ++ take n bytes.now) }
         ensures stays { OnErr result (self.new.taken ≡ self.old.taken) }
         ensures calls { self.new.calls ≡ next_count self.old.calls }
         ensures counts { self.old.faults ≤ self.new.faults }
-        ensures faults { self.new.faults ≡ (if is_err result then next_count self.old.faults else self.old.faults) }
+        ensures faults { self.new.faults ≡ faults_after result self.old.faults }
         ensures room { self.new.room ≡ self.old.room }
         ensures piece { self.new.piece ≡ self.old.piece }
         ensures plan { self.new.fails ≡ self.old.fails }
     {
-        self.calls = one_more(self.calls);
+        self.plan.begin()?;
         let free = self.room as usize - self.taken.len();
-        if is_to_fail(&self.fails, self.calls) || free == 0 {
-            self.faults = one_more(self.faults);
-            return Err(Failed);
+        if free == 0 {
+            return Err(self.plan.fault());
         }
         let n = bytes.len().min(self.piece as usize).min(free);
         match self.taken.extend_from_slice(&bytes[..n]) {
@@ -178,17 +172,12 @@ impl Sink for MemSink {
         ensures stays { self.new.taken ≡ self.old.taken }
         ensures calls { self.new.calls ≡ next_count self.old.calls }
         ensures counts { self.old.faults ≤ self.new.faults }
-        ensures faults { self.new.faults ≡ (if is_err result then next_count self.old.faults else self.old.faults) }
+        ensures faults { self.new.faults ≡ faults_after result self.old.faults }
         ensures room { self.new.room ≡ self.old.room }
         ensures piece { self.new.piece ≡ self.old.piece }
         ensures plan { self.new.fails ≡ self.old.fails }
     {
-        self.calls = one_more(self.calls);
-        if is_to_fail(&self.fails, self.calls) {
-            self.faults = one_more(self.faults);
-            return Err(Failed);
-        }
-        Ok(())
+        self.plan.begin()
     }
 }
 

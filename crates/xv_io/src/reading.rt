@@ -29,8 +29,10 @@ pub fn read_all<I: Source>(alloc: Global, source: &mut I, limit: u32) -> Result<
     ensures all { IfOk result (λ v. IfSome (I.left source.old) (λ xs. v.items ≡ xs)) }
     ensures ended { OnOk result (IsAtEnd (I.left source.new)) }
     ensures within { IfOk result (λ v. vec_len v ≤ limit) }
-    ensures fault { IsErrOf result ReadAll.ReadFault → CountRose (I.faults source.old) (I.faults source.new) }
-    ensures too_long { IsErrOf result ReadAll.TooLong → GaveAtLeast (limit + 1) (I.left source.old) (I.left source.new) }
+    ensures fault { IsErrOf result ReadAll.ReadFault
+        → CountRose (I.faults source.old) (I.faults source.new) }
+    ensures too_long { IsErrOf result ReadAll.TooLong
+        → GaveAtLeast (limit + 1) (I.left source.old) (I.left source.new) }
     ensures rest { GaveAtLeast 0 (I.left source.old) (I.left source.new) }
     ensures counts { I.faults source.old ≤ I.faults source.new }
 {
@@ -57,10 +59,12 @@ fn read_more<I: Source>(
     requires room { 0 < room }
     ensures fits { IfOk result (λ n. n ≤ room) }
     ensures grows { IfOk result (λ n. vec_len bytes.new ≡ vec_len bytes.old + n) }
-    ensures moves { OnOk result (Moves (I.left source.old) (I.left source.new) bytes.old.items bytes.new.items) }
+    ensures moves { OnOk result
+        (Moves (I.left source.old) (I.left source.new) bytes.old.items bytes.new.items) }
     ensures ends { IfOk result (λ n. EndsAtZero (I.left source.old) n) }
     ensures rest { OnErr result (GaveAtLeast 0 (I.left source.old) (I.left source.new)) }
-    ensures fault { IsErrOf result ReadAll.ReadFault → CountRose (I.faults source.old) (I.faults source.new) }
+    ensures fault { IsErrOf result ReadAll.ReadFault
+        → CountRose (I.faults source.old) (I.faults source.new) }
     ensures short { ¬ IsErrOf result ReadAll.TooLong }
     ensures counts { I.faults source.old ≤ I.faults source.new }
 {

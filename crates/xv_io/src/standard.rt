@@ -1,8 +1,8 @@
 //! The trusted edge: a source and a sink over std's readers and writers.
 
-ghost use Rattle.std.specs.Prelude.{◌≡◌, ◌<◌, ◌≤◌, length, IfOk, is_err, if◌then◌else◌};
+ghost use Rattle.std.specs.Prelude.{◌≡◌, ◌<◌, ◌≤◌, length, IfOk};
 ghost use Rattle.std.specs.Io.KnownBytes.{Keeps, ReadConsumes, WriteAppends};
-ghost use Rattle.xv_io.specs.Io.{next_count};
+ghost use Rattle.xv_io.specs.Io.{faults_after};
 
 use crate::count::one_more;
 use crate::sink::Sink;
@@ -38,7 +38,7 @@ impl<X: Read> Source for StdSource<X> {
         ensures fits { IfOk result (λ n. n ≤ length into.old) }
         ensures gives { ReadConsumes (X.remaining self.old.reader) (X.remaining self.new.reader) result into.new }
         ensures counts { self.old.faults ≤ self.new.faults }
-        ensures faults { self.new.faults ≡ (if is_err result then next_count self.old.faults else self.old.faults) }
+        ensures faults { self.new.faults ≡ faults_after result self.old.faults }
     {
         match self.reader.read(into) {
             Ok(n) => Ok(n),
@@ -79,7 +79,7 @@ impl<X: Write> Sink for StdSink<X> {
         ensures fits { IfOk result (λ n. n ≤ length bytes.now) }
         ensures takes { WriteAppends (X.contents self.old.writer) (X.contents self.new.writer) result bytes.now }
         ensures counts { self.old.faults ≤ self.new.faults }
-        ensures faults { self.new.faults ≡ (if is_err result then next_count self.old.faults else self.old.faults) }
+        ensures faults { self.new.faults ≡ faults_after result self.old.faults }
     {
         match self.writer.write(bytes) {
             Ok(n) if n > 0 => Ok(n),
@@ -94,7 +94,7 @@ impl<X: Write> Sink for StdSink<X> {
     fn flush(&mut self) -> Result<(), Failed>
         ensures stays { Keeps (X.contents self.old.writer) (X.contents self.new.writer) }
         ensures counts { self.old.faults ≤ self.new.faults }
-        ensures faults { self.new.faults ≡ (if is_err result then next_count self.old.faults else self.old.faults) }
+        ensures faults { self.new.faults ≡ faults_after result self.old.faults }
     {
         match self.writer.flush() {
             Ok(()) => Ok(()),

@@ -2,6 +2,7 @@ use crate::{
     MemSink, MemSource, ReadAll, Sink, StdSink, StdSource, WriteFault, read_all, write_text,
 };
 use std::io;
+use std::io::Write;
 use std::test::Fail;
 use xv_base::Failed;
 
@@ -80,4 +81,26 @@ fn goes_over_std(rt: HostRuntime) -> Result<(), Fail> {
     assert_eq!(rt; write_text(&mut sink, b"abc"), Err(WriteFault));
     assert_eq!(rt; full.as_slice(), b"ab".as_slice());
     Ok(())
+}
+
+// A writer that counts its flushes.
+#[derive(Drop)]
+struct Flushes<'a>(&'a mut u32);
+
+impl Write for Flushes<'_> {
+    fn write(&mut self, bytes: &[u8]) -> io::Result<usize> {
+        Ok(bytes.len())
+    }
+
+    fn flush(&mut self) -> io::Result<()> {
+        *self.0 = self.0.saturating_add(1);
+        Ok(())
+    }
+}
+
+#[test]
+fn hands_a_flush_on(rt: HostRuntime) {
+    let mut count = 0;
+    assert_eq!(rt; StdSink::new(Flushes(&mut count)).flush(), Ok(()));
+    assert_eq!(rt; count, 1);
 }

@@ -1,4 +1,4 @@
-use Rattle.std.proofs.Common.{◌≤◌, ◌+◌, ◌<◌, vec_len, ◌≡◌, ◌-◌, length}
+use Rattle.std.proofs.Common.{◌≤◌, ◌<◌, vec_len, ◌-◌, length}
 use Rattle.xv_io.specs.Io.{GaveFirst}
 use Rattle.xv_io.proofs.reading.read_all.Given as goal
 
@@ -7,7 +7,6 @@ abbrev pub invariant-loop-bytes : goal.invariant-loop-bytes
 invariant-loop-bytes g l =
     GaveFirst (g.I.Source.left l.fn.source) (g.I.Source.left l.source) l.bytes.items
     × (vec_len l.bytes ≤ l.most)
-    × (l.most ≡ l.fn.limit + 1)
     × (0 < length l.buffer.items)
     × (g.I.Source.faults l.fn.source ≤ g.I.Source.faults l.source)
 
