@@ -1,12 +1,13 @@
 -- The contents of a migration beside its view: one for each unit on both sides, for each message, and for each block
 -- read; what each event does to them; and the content invariant.
-use Rattle.std.specs.Prelude.{◌≡◌, ◌<◌, ℕ, ◌+◌, ◌||◌, Bool, true, false, List, [], ◌∷◌, ◌++◌, length, map, take, drop, set, remove, get_or, unwrap_or, is_none, Option, Some, None, if◌then◌else◌}
+use Rattle.std.specs.Prelude.{◌≡◌, ◌<◌, ℕ, ◌+◌, ◌||◌, Bool, true, false, List, [], ◌∷◌, ◌++◌, length, map, replicate, take, drop, set, remove, get_or, unwrap_or, is_none, Option, Some, None, if◌then◌else◌}
+use Rattle.std.specs.List.{range_with_len}
 use Rattle.xv_model.specs.Job.{Job, UnitOp, unit_count}
-use Rattle.xv_model.specs.Guest.{Ended, content, reads, overlaid, part}
+use Rattle.xv_model.specs.Guest.{Ended, initial, content, reads, overlaid, part}
 use Rattle.xv_model.specs.View.{View, UnitHead, number, least, disk, front, ready, ready_message, is_running, is_switched}
 use Rattle.xv_model.specs.Wait.{Event, Why, wait, next_operation, next_aim, is_join, is_mirror}
 use Rattle.xv_model.specs.Effect.{batch, cursor_unit}
-use Rattle.xv_model.specs.Step.{breaks}
+use Rattle.xv_model.specs.Step.{Entry, breaks, step, is_flagged}
 use Rattle.xv_base.specs.declared.event.Event.TheVariants.{Guest, Begin, Read, Advance, Release, Round, Page, Send, Deliver, Apply, Ack, Credit, Stun, Switch, Cancel}
 
 -- `regions` has for each disk the blocks read of its region; a message's content stands where the message stands
@@ -18,6 +19,21 @@ pub record Contents : Type 0 where
   pub streams : List (List (List (List ℕ)))
   pub held : List (List ℕ)
   pub reads : List ℕ
+
+-- the first contents: the guest's on the source, any of the same number on the destination
+abbrev pub first_source : Job → List (List ℕ)
+first_source job = map (initial job) (range_with_len 0 (unit_count job))
+
+abbrev pub first_contents : Job → List (List ℕ) → Contents
+first_contents job dest = record {
+  source = first_source job;
+  dest = dest;
+  regions = map (λ _. []) job.shape.disks;
+  outbox = [];
+  streams = replicate job.config.streams [];
+  held = [];
+  reads = [];
+}
 
 -- the content of one unit, and a device's contents after an operation
 abbrev pub unit_content : List (List ℕ) → ℕ → List ℕ
@@ -133,6 +149,12 @@ contents_by None true job v event c = fault_moves event c
 abbrev pub step_contents : Job → View → Event → Bool → Contents → Contents
 step_contents job v event flag c = contents_by (wait job v event flag) (breaks job v event flag) job v event c
 
+-- the contents after a journal, each entry's call failing where its answer says so
+abbrev pub contents_after : Job → View → Contents → List Entry → Contents
+contents_after job v c [] = c
+contents_after job v c (e ∷ es) =
+    contents_after job (step job v e.event (is_flagged e.turn)) (step_contents job v e.event (is_flagged e.turn) c) es
+
 -- the unmigrated guest's content of a message's unit, after the entries that the message was made after
 abbrev pub message_content : Job → List Ended → UnitHead → List ℕ
 message_content job history m = content job history m.unit.0 m.at
@@ -148,6 +170,7 @@ pub record HoldsContents (job : Job) (v : View) (c : Contents) : Type 0 where
   pub streams_are : c.streams ≡ map (map (map (message_content job v.history))) v.streams
   pub held_is : c.held ≡ map (message_content job v.history) v.hold.held
   pub dest_is : (unit : ℕ) → unit < unit_count job → is_switched v.phase ≡ false → 0 < number v.hold.applied unit → unit_content c.dest unit ≡ content job v.history unit (number v.hold.recorded unit)
+  pub regions_length : length c.regions ≡ length v.disks
   pub region_length : (d : ℕ) → d < length v.disks → length (region_content c d) ≡ (disk v d).got
   pub region_is : (d k : ℕ) → d < length v.disks → k < (disk v d).got → get_or (region_content c d) k [] ≡ content job v.history (cursor_unit job v d + k) (length v.history)
   pub dest_switched : (unit : ℕ) → unit < unit_count job → is_switched v.phase ≡ true → unit_content c.dest unit ≡ content job v.history unit (length v.history)

@@ -2,4 +2,6 @@
 // run. There is no engine code here; contracts at every level cite these definitions.
 #![tactic(auto)]
 
+pub mod contents_laws;
+pub mod laws;
 pub mod worked;

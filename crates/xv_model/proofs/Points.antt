@@ -1,0 +1,7 @@
+pub mod Versions
+pub mod VersionSteps
+pub mod Times
+pub mod TimeSteps
+pub mod Outboxes
+pub mod OutboxSteps
+pub mod CreditSteps
