@@ -6,7 +6,7 @@ ghost use Rattle.xv_base.specs.Pattern.{repeated};
 ghost use Rattle.xv_base.specs.Units.{units, size};
 ghost use Rattle.xv_device.specs.Device.{ReadRange, content};
 ghost use Rattle.xv_device.specs.Memory.{after};
-ghost use Rattle.xv_model.specs.View.{first_next};
+ghost use Rattle.xv_model.specs.View.{is_next, first_next};
 ghost use Rattle.xv_core.specs.State.{heads, no_content};
 
 use std::alloc::Global;
@@ -100,13 +100,20 @@ pub fn moved(from: &mut VecDeque<Message>, to: &mut VecDeque<Message>) -> UnitHe
     head
 }
 
-/// The place of the first message that is its unit's next version, or the number of messages where there is none.
-pub fn first_next(held: &VecDeque<Message>, applied: &Vec<u32>) -> usize
-    ensures { result ≡ first_next applied.now.items (heads held.now.items) }
+/// Whether a message is its unit's next version.
+fn is_next(applied: &[u32], head: UnitHead) -> bool
+    ensures { result ≡ is_next applied.now head }
 {
-    for (place, message) in held.iter().enumerate() {
-        let version = applied.get(message.head.unit.0 as usize).copied().unwrap_or(0);
-        if u64::from(message.head.version) == u64::from(version) + 1 {
+    let version = applied.get(head.unit.0 as usize).copied().unwrap_or(0);
+    u64::from(head.version) == u64::from(version) + 1
+}
+
+/// The place of the first message that is its unit's next version, or the number of messages where there is none.
+pub fn first_next(held: &VecDeque<Message>, applied: &[u32]) -> usize
+    ensures { result ≡ first_next applied.now (heads held.now.items) }
+{
+    for place in 0..held.len() {
+        if is_next(applied, held[place].head) {
             return place;
         }
     }
