@@ -1,3 +1,5 @@
 pub mod Places
 pub mod Pieces
 pub mod Filling
+pub mod Sized
+pub mod Made

@@ -78,7 +78,7 @@ pieces-patched s g b w u o l h f = same_lists _ _
 pub length-piece : (s : Shape) → IsGood s → (b : List ℕ) (u : ℕ) → length b ≡ all_bytes s → u < units s → length (piece s b u) ≡ size s u
 length-piece s g b u l h = omega (arith, length-take (size s u) (drop (place s u) b), length-drop (place s u) b, within s g u h)
 
-patched-all : (w c : List ℕ) → length c ≡ length w → patched 0 w c ≡ w
+pub patched-all : (w c : List ℕ) → length c ≡ length w → patched 0 w c ≡ w
 patched-all w c h = same_lists _ _ (search (rules, places)) (λ k d i. grind (arith, places))
 
 pub pieces-written : (s : Shape) → IsGood s → (b w : List ℕ) (u : ℕ) → length b ≡ all_bytes s → u < units s → length w ≡ size s u

@@ -1,7 +1,6 @@
--- A call of a device as data, what a device tells, and what a call does to that.
-use Rattle.std.specs.Prelude.{ℕ, ◌+◌, ◌^◌, ◌-◌, ◌==◌, min, Bool, false, List, [], ◌++◌, length, get_or, set, take, drop, Option}
+-- A call of a device as data, and what it does to contents, numbers of writes and numbers of calls.
+use Rattle.std.specs.Prelude.{ℕ, ◌+◌, ◌^◌, ◌-◌, ◌==◌, min, max, Bool, false, List, [], ◌++◌, length, get_or, set, take, drop}
 use Rattle.std.specs.List.{list_any}
-use Rattle.xv_base.specs.Units.{Shape}
 
 -- one call: of a range of a unit, of a whole unit, of the device, or none at all
 pub data DeviceCall : Type 0 where
@@ -26,14 +25,6 @@ pub record Calls : Type 0 where
 pub record Counted : Type 0 where
   pub plan : Plan
   pub calls : Calls
-
--- what a device tells: its layout, how many writes of each unit succeeded, and maybe a content for each unit, and maybe
--- its plan with what it counts
-pub record Told : Type 0 where
-  pub shape : Shape
-  pub writes : List ℕ
-  pub contents : Option (List (List ℕ))
-  pub counted : Option Counted
 
 abbrev pub content : List (List ℕ) → ℕ → List ℕ
 content contents unit = get_or contents unit []
@@ -85,4 +76,4 @@ is_planned FlushAll c = is_listed c.plan.flushes (c.calls.flushes + 1)
 
 -- one more, in a count that stands still at the last value of 64 bits
 abbrev pub next_count : ℕ → ℕ
-next_count n = min (n + 1) (2 ^ 64 - 1)
+next_count n = max n (min (n + 1) (2 ^ 64 - 1))

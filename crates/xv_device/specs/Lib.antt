@@ -1,3 +1,4 @@
 pub mod Device
+pub mod Told
 pub mod Pieces
 pub mod Memory

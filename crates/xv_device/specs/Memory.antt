@@ -1,10 +1,11 @@
 -- What is seen of a device in memory, and how it begins.
-use Rattle.std.specs.Prelude.{◌≡◌, ℕ, ◌==◌, Bool, if◌then◌else◌, List, [], ◌∷◌, length, map, replicate}
+use Rattle.std.specs.Prelude.{Some, ◌≡◌, ℕ, ◌==◌, Bool, if◌then◌else◌, List, [], ◌∷◌, length, map, replicate}
 use Rattle.std.specs.List.{range_with_len}
 use Rattle.xv_base.specs.declared.pattern.Init.{Init}
 use Rattle.xv_base.specs.Units.{Shape, units, size, all_bytes}
 use Rattle.xv_base.specs.Layout.{IsGood}
 use Rattle.xv_base.specs.Pattern.{repeated}
+use Rattle.xv_device.specs.Told.{Told}
 use Rattle.xv_device.specs.Device.{DeviceCall, Plan, Calls, Counted, contents_after, writes_after, calls_after, next_count}
 
 pub record Device : Type 0 where
@@ -56,3 +57,7 @@ pub record IsWhole (shape : Shape) (bytes : List ℕ) (writes : List ℕ) : Type
   pub good : IsGood shape
   pub all_there : length bytes ≡ all_bytes shape
   pub counted_each : length writes ≡ units shape
+
+-- it tells all
+abbrev pub told : Device → Told
+told d = record { shape = d.shape; writes = d.writes; contents = Some d.contents; counted = Some (counted d) }

@@ -7,8 +7,10 @@
 #![tactic(auto)]
 
 mod bytes;
+mod device;
 mod memory;
 mod plan;
 
+pub use device::UnitDevice;
 pub use memory::MemDevice;
 pub use plan::DevicePlan;

@@ -5,10 +5,12 @@ ghost use Rattle.xv_base.specs.Units.{units, size, all_bytes};
 ghost use Rattle.xv_base.specs.Layout.{IsGood};
 ghost use Rattle.xv_device.specs.Device.{ReadRange, PatchRange, WriteUnit, FlushAll, content, write_count, range_of, is_planned};
 ghost use Rattle.xv_device.specs.Pieces.{pieces};
-ghost use Rattle.xv_device.specs.Memory.{no_init, first_contents, fresh, after, counted};
+ghost use Rattle.xv_device.specs.Memory.{no_init, first_contents, fresh, after, counted, told};
+ghost use Rattle.xv_device.specs.Told.{IsSized};
 
 use crate::bytes::{copy_in, copy_out, fill_in, part};
-use crate::plan::{DevicePlan, Kind};
+use crate::device::UnitDevice;
+use crate::plan::{DevicePlan, Kind, one_more};
 use std::alloc::Global;
 use std::marker::Model;
 use xv_base::{Failed, Init, Layout, NoMemory, UnitId};
@@ -99,7 +101,7 @@ impl MemDevice {
         ensures sure { self.old.plan.reads ≡ [] → is_err result ≡ false }
     {
         if self.reading.count() {
-            self.faults = self.faults.saturating_add(1);
+            self.faults = one_more(self.faults);
             return Err(Failed);
         }
         let at = self.layout.place(unit) + offset;
@@ -115,15 +117,10 @@ impl MemDevice {
         requires countable { self.old.calls.writes < 2 ^ 63 }
         ensures fails { is_err result ≡ is_planned (WriteUnit unit.0 bytes.now) (counted self.old) }
         ensures after { self.new ≡ after (WriteUnit unit.0 bytes.now) (is_err result) self.old }
+        ensures sized { IsSized (told self.old) }
         ensures sure { self.old.plan.writes ≡ [] → is_err result ≡ false }
     {
-        if self.writing.count() {
-            self.faults = self.faults.saturating_add(1);
-            return Err(Failed);
-        }
-        copy_in(&mut self.bytes, self.layout.place(unit) as usize, bytes);
-        self.writes[unit.0 as usize] += 1;
-        Ok(())
+        self.patch(unit, 0, bytes)
     }
 
     /// Writes the bytes of a unit from an offset on.
@@ -134,10 +131,11 @@ impl MemDevice {
         requires countable { self.old.calls.writes < 2 ^ 63 }
         ensures fails { is_err result ≡ is_planned (PatchRange unit.0 offset bytes.now) (counted self.old) }
         ensures after { self.new ≡ after (PatchRange unit.0 offset bytes.now) (is_err result) self.old }
+        ensures sized { IsSized (told self.old) }
         ensures sure { self.old.plan.writes ≡ [] → is_err result ≡ false }
     {
         if self.writing.count() {
-            self.faults = self.faults.saturating_add(1);
+            self.faults = one_more(self.faults);
             return Err(Failed);
         }
         let at = self.layout.place(unit) + offset;
@@ -154,7 +152,7 @@ impl MemDevice {
         ensures sure { self.old.plan.flushes ≡ [] → is_err result ≡ false }
     {
         if self.flushing.count() {
-            self.faults = self.faults.saturating_add(1);
+            self.faults = one_more(self.faults);
             return Err(Failed);
         }
         Ok(())
@@ -174,6 +172,7 @@ impl MemDevice {
     pub fn layout(&self) -> &Layout
         ensures exactly { result.now ≡ self.now.shape }
         ensures good { IsGood self.now.shape }
+        ensures sized { IsSized (told self.now) }
     {
         &self.layout
     }
@@ -184,6 +183,30 @@ impl MemDevice {
         ensures { result ≡ write_count self.now.writes unit.0 }
     {
         self.writes[unit.0 as usize]
+    }
+}
+
+impl UnitDevice for MemDevice {
+    ghost use Rattle.xv_device.specs.Memory.{told};
+
+    ghost told = { told };
+
+    ghost faults = { λ d. d.faults };
+
+    fn read(&mut self, unit: UnitId, offset: u32, into: &mut [u8]) -> Result<(), Failed> {
+        self.read(unit, offset, into)
+    }
+
+    fn write(&mut self, unit: UnitId, bytes: &[u8]) -> Result<(), Failed> {
+        self.write(unit, bytes)
+    }
+
+    fn patch(&mut self, unit: UnitId, offset: u32, bytes: &[u8]) -> Result<(), Failed> {
+        self.patch(unit, offset, bytes)
+    }
+
+    fn flush(&mut self) -> Result<(), Failed> {
+        self.flush()
     }
 }
 

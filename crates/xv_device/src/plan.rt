@@ -1,7 +1,7 @@
 //! The plan by which the calls of a device in memory fail.
 
 ghost use Rattle.std.specs.Prelude.{◌≡◌, ◌+◌, ◌<◌, ◌^◌};
-ghost use Rattle.xv_device.specs.Device.{is_listed};
+ghost use Rattle.xv_device.specs.Device.{is_listed, next_count};
 
 use std::marker::Model;
 
@@ -39,6 +39,13 @@ impl Kind {
         self.calls += 1;
         is_listed(&self.fails, self.calls)
     }
+}
+
+/// One more, where the last value of a `u64` stays.
+pub fn one_more(count: u64) -> u64
+    ensures { result ≡ next_count count }
+{
+    count.saturating_add(1)
 }
 
 fn is_listed(fails: &[u32], call: u64) -> bool

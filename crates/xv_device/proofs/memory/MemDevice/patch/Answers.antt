@@ -2,7 +2,9 @@ use Rattle.std.proofs.Common.{rules, sym, ◌≡◌, ◌<◌, ◌+◌, ◌≤◌
 use Rattle.xv_base.specs.Units.{units, size, place}
 use Rattle.std.proofs.lemmas.List.{with_items_is}
 use Rattle.std.specs.Vec.{with_items}
-use Rattle.xv_device.specs.Memory.{Device}
+use Rattle.xv_device.specs.Memory.{Device, told}
+use Rattle.xv_device.specs.Told.{IsSized}
+use Rattle.xv_device.proofs.Sized.{whole-sized}
 use Rattle.xv_device.specs.Device.{patched}
 use Rattle.xv_device.proofs.Pieces.{place-fits, place-small, one_more_write, pieces-patched}
 use Rattle.xv_device.proofs.memory.MemDevice.patch.Goals as goal
@@ -30,3 +32,10 @@ returns-clause-after c =
     with_items_is c.self.inside.bytes c.copy_in.new.bytes (c.copy_in.auto.bytes ∙ c.deref_mut.ensures.len)
     ∙ (rw (← c.place.ensures.exactly, ← c.deref_mut.ensures.value) c.copy_in.ensures) in
     rw (← c.self.view_is, held, bytes, writes, c.count.ensures.plan, c.count.ensures.calls) refl
+
+pub returns-clause-sized : goal.returns-clause-sized
+returns-clause-sized c = subst (λ (d : Device). IsSized (told d)) c.self.view_is (whole-sized _ _ _ c.self.invariant _ _ c.self.inside.faults)
+
+pub returns-then-count-clause-sized : goal.returns-then-count-clause-sized
+returns-then-count-clause-sized c =
+    subst (λ (d : Device). IsSized (told d)) c.self.view_is (whole-sized _ _ _ c.self.invariant _ _ c.self.inside.faults)
