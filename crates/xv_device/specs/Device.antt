@@ -1,7 +1,7 @@
 -- A call of a device as data, what a device tells, and what a call does to that.
-use Rattle.std.specs.Prelude.{◌≡◌, ℕ, ◌+◌, ◌^◌, ◌-◌, ◌<◌, ◌≤◌, ◌==◌, min, Bool, true, false, if◌then◌else◌, List, [], ◌++◌, length, get_or, set, take, drop, Option, None, Some, option_map, ⊤}
+use Rattle.std.specs.Prelude.{ℕ, ◌+◌, ◌^◌, ◌-◌, ◌==◌, min, Bool, false, List, [], ◌++◌, length, get_or, set, take, drop, Option}
 use Rattle.std.specs.List.{list_any}
-use Rattle.xv_base.specs.Units.{Shape, units, size}
+use Rattle.xv_base.specs.Units.{Shape}
 
 -- one call: of a range of a unit, of a whole unit, of the device, or none at all
 pub data DeviceCall : Type 0 where

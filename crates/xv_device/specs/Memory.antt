@@ -1,11 +1,11 @@
 -- What is seen of a device in memory, and how it begins.
-use Rattle.std.specs.Prelude.{◌≡◌, ℕ, ◌==◌, Bool, if◌then◌else◌, List, [], ◌∷◌, length, map, replicate, get_or, Some}
+use Rattle.std.specs.Prelude.{◌≡◌, ℕ, ◌==◌, Bool, if◌then◌else◌, List, [], ◌∷◌, length, map, replicate}
 use Rattle.std.specs.List.{range_with_len}
 use Rattle.xv_base.specs.declared.pattern.Init.{Init}
 use Rattle.xv_base.specs.Units.{Shape, units, size, all_bytes}
 use Rattle.xv_base.specs.Layout.{IsGood}
 use Rattle.xv_base.specs.Pattern.{repeated}
-use Rattle.xv_device.specs.Device.{DeviceCall, Plan, Calls, Counted, Told, contents_after, writes_after, calls_after, next_count}
+use Rattle.xv_device.specs.Device.{DeviceCall, Plan, Calls, Counted, contents_after, writes_after, calls_after, next_count}
 
 pub record Device : Type 0 where
   pub shape : Shape

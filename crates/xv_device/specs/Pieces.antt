@@ -1,5 +1,5 @@
 -- The contents of units that lie one after another in one list of bytes.
-use Rattle.std.specs.Prelude.{ℕ, ◌+◌, List, map, take, drop}
+use Rattle.std.specs.Prelude.{ℕ, List, map, take, drop}
 use Rattle.std.specs.List.{range_with_len}
 use Rattle.xv_base.specs.Units.{Shape, units, size, place}
 

@@ -1,0 +1,25 @@
+use Rattle.std.proofs.Common.{arith, sym, ◌≡◌, ◌<◌, length, subst, ap, ◌∙◌, refl}
+use Rattle.xv_base.specs.Units.{units, size, place}
+use Rattle.std.proofs.lemmas.List.{with_items_is}
+use Rattle.std.specs.Vec.{with_items}
+use Rattle.xv_device.specs.Memory.{Device}
+use Rattle.xv_device.specs.Device.{patched}
+use Rattle.xv_device.proofs.Pieces.{place-fits, one_more_write, pieces-written}
+use Rattle.xv_device.proofs.memory.MemDevice.write.Goals as goal
+
+pub copy_in-requires : goal.copy_in-requires
+copy_in-requires c =
+    let unit : c.args.unit.0 < units c.self.inside.layout = subst (λ (d : Device). c.args.unit.0 < units d.shape) (sym c.self.view_is) c.requires.unit_in in
+    let whole : length c.args.bytes.now ≡ size c.self.inside.layout c.args.unit.0 = subst (λ (d : Device). length c.args.bytes.now ≡ size d.shape c.args.unit.0) (sym c.self.view_is) c.requires.whole in
+    omega (arith, place-fits _ c.self.invariant.good _ 0 (length c.args.bytes.now) unit (omega (arith, whole)), c.self.invariant.all_there, c.place.ensures.exactly, ap length c.deref_mut.ensures.value)
+
+pub returns-clause-after : goal.returns-clause-after
+returns-clause-after c =
+    let unit : c.args.unit.0 < units c.self.inside.layout = subst (λ (d : Device). c.args.unit.0 < units d.shape) (sym c.self.view_is) c.requires.unit_in in
+    let whole : length c.args.bytes.now ≡ size c.self.inside.layout c.args.unit.0 = subst (λ (d : Device). length c.args.bytes.now ≡ size d.shape c.args.unit.0) (sym c.self.view_is) c.requires.whole in
+    let bytes = pieces-written _ c.self.invariant.good c.self.inside.bytes.items c.args.bytes.now _ c.self.invariant.all_there unit whole in
+    let writes = one_more_write _ _ _ _ c.self.invariant.counted_each unit c.index_mut.ensures.value in
+    let held : (with_items c.self.inside.bytes c.copy_in.new.bytes).items ≡ patched (place c.self.inside.layout c.args.unit.0) c.args.bytes.now c.self.inside.bytes.items =
+    with_items_is c.self.inside.bytes c.copy_in.new.bytes (c.copy_in.auto.bytes ∙ c.deref_mut.ensures.len)
+    ∙ (rw (← c.place.ensures.exactly, ← c.deref_mut.ensures.value) c.copy_in.ensures) in
+    rw (← c.self.view_is, held, bytes, writes, c.count.ensures.plan, c.count.ensures.calls) refl
