@@ -56,6 +56,7 @@ pub struct Migration {
 }
 
 impl Model for Migration {
+    ghost use Rattle.std.specs.Prelude.{◌≡◌};
     ghost use Rattle.xv_core.specs.Seen.{Seen};
 
     ghost Value = { Seen };
