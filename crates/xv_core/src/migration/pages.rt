@@ -9,6 +9,7 @@ ghost use Rattle.xv_base.specs.declared.event.Event.TheVariants.{Round, Page, St
 
 use std::alloc::Global;
 use xv_base::{Event, Phase, Turn, UnitId, Why};
+use xv_job::Job;
 
 use crate::migration::Migration;
 use crate::phase::{is_live, is_running};
@@ -52,7 +53,7 @@ impl Migration {
     pub(super) fn is_round_sent(&self) -> bool
         ensures { result ≡ is_empty_set (view_of self.now).to_send }
     {
-        self.next_page == self.job.layout.pages()
+        self.next_page == pages(&self.job)
     }
 
     pub(super) fn round(&mut self) -> Turn
@@ -64,7 +65,8 @@ impl Migration {
         }
         self.next_page = 0;
         self.rounds = 1;
-        recorded(&mut self.journal, Event::Round, self.job.layout.pages(), 0)
+        let count = pages(&self.job);
+        recorded(&mut self.journal, Event::Round, count, 0)
     }
 
     pub(super) fn page(&mut self, alloc: Global) -> Turn
@@ -95,4 +97,11 @@ impl Migration {
         self.stun = Some(self.history.len());
         recorded(&mut self.journal, Event::Stun, 0, 0)
     }
+}
+
+/// How many pages the machine has.
+fn pages(job: &Job) -> u32
+    ensures { result ≡ job.now.shape.pages }
+{
+    job.layout.pages()
 }
