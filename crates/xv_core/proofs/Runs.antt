@@ -51,8 +51,8 @@ next s e = s.journal ++ record { event = e; turn = answer s.job (run s.job s.jou
 
 -- what holds then
 pub record Next (s : State) (e : Event) : Type 0 where
-  pub run : run s.job (next s e) ≡ effect s.job (run s.job s.journal) e
-  pub is_run : is_run s.job (next s e) ≡ true
+  pub becomes : run s.job (next s e) ≡ effect s.job (run s.job s.journal) e
+  pub journal : is_run s.job (next s e) ≡ true
   pub view : IsViewOf s.job (run s.job (next s e))
   pub contents : HoldsContents s.job (run s.job (next s e)) (moves s.job (run s.job s.journal) e (held_contents s))
 
@@ -63,8 +63,8 @@ next-holds s e is fit goes off same =
     let by_flag : run s.job (next s e) ≡ step s.job v e false = run-push s.job s.journal (record { event = e; turn = answer s.job v e }) ∙ ap (step s.job v e) off in
     let told : turn s.job v e (is_flagged (answer s.job v e)) ≡ answer s.job v e = ap (turn s.job v e) off ∙ turn-goes_on s.job v e goes in
     record {
-      run = by_flag ∙ step-goes_on s.job v e goes;
-      is_run = is_run-push s.job s.journal (record { event = e; turn = answer s.job v e }) is.is_run (ap (same_turn (answer s.job v e)) told ∙ same);
+      becomes = by_flag ∙ step-goes_on s.job v e goes;
+      journal = is_run-push s.job s.journal (record { event = e; turn = answer s.job v e }) is.is_run (ap (same_turn (answer s.job v e)) told ∙ same);
       view = subst (IsViewOf s.job) (sym by_flag) (step-holds s.job v e false is.good fit is.view);
       contents = subst (λ w. HoldsContents s.job w (moves s.job v e (held_contents s))) (sym by_flag)
           (subst (HoldsContents s.job (step s.job v e false)) (contents-goes_on s.job v e (held_contents s) goes) (contents-step s.job v (held_contents s) e false is.good fit is.view is.contents));
