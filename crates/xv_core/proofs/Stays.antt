@@ -1,14 +1,15 @@
 -- An event that leaves the history, the destination and the copy of the disk alone; and the answer of an event that is
 -- done.
-use Rattle.std.specs.Prelude.{◌≡◌, ◌≤◌, ◌<◌, ℕ, ◌+◌, ◌-◌, ◌||◌, nat_lt, Bool, true, false, List, [], ◌∷◌, ◌++◌, length, Option, None}
+use Rattle.std.specs.Prelude.{◌≡◌, ◌≤◌, ◌<◌, ℕ, ◌+◌, ◌-◌, ◌||◌, ◌==◌, ◌&&◌, nat_lt, Bool, true, false, List, [], ◌∷◌, ◌++◌, length, Option, None}
 use Rattle.std.proofs.Common.{refl, ap, sym, subst, ◌∙◌, arith}
+use Rattle.std.proofs.lemmas.Bool.{and_from, eq-eqb}
 use Rattle.std.proofs.lemmas.List.{length_push}
 use Rattle.xv_model.specs.Job.{Job}
 use Rattle.xv_model.specs.Guest.{writes}
 use Rattle.xv_model.specs.View.{View, Phase, number, is_running, is_switched}
-use Rattle.xv_model.specs.Wait.{Event, Why, wait}
+use Rattle.xv_model.specs.Wait.{Event, Why, wait, fits}
 use Rattle.xv_model.specs.Effect.{Turn, Note, effect, answer}
-use Rattle.xv_model.specs.Step.{Entry, run, is_run, turn_by, turn, is_wait, entry_of}
+use Rattle.xv_model.specs.Step.{Entry, run, is_run, turn_by, turn, is_wait, entry_of, is_flagged, same_turn}
 use Rattle.xv_model.specs.Report.{is_written, source_length}
 use Rattle.xv_model.specs.Invariant.{IsViewOf}
 use Rattle.xv_model.specs.Contents.{Contents, HoldsContents, moves}
@@ -18,13 +19,13 @@ use Rattle.xv_device.specs.Device.{Plan}
 use Rattle.xv_device.specs.Memory.{Device}
 use Rattle.xv_core.specs.Seen.{Seen, IsStep, view_of, is_no_memory, source_writes, dest_writes}
 use Rattle.xv_core.specs.State.{State, IsState, shown, held_contents}
-use Rattle.xv_core.proofs.Runs.{Next, next}
+use Rattle.xv_core.proofs.Runs.{Next, next, next-holds}
 use Rattle.xv_base.specs.declared.answer.Turn.TheVariants.{Done}
 
 -- one entry more, of another event than a region's begin, begins no region
 pub has_begin-push : (j : List Entry) (e : Entry) → is_begin e.event ≡ false → has_begin (j ++ e ∷ []) ≡ has_begin j
-has_begin-push [] e no = ap (λ b. b || false) no
-has_begin-push (x ∷ j) e no = ap (λ b. is_begin x.event || b) (has_begin-push j e no)
+has_begin-push [] e other = ap (λ b. b || false) other
+has_begin-push (x ∷ j) e other = ap (λ b. is_begin x.event || b) (has_begin-push j e other)
 
 -- the answer of an event that is done, and the journal with it
 pub is_step : (old new : Seen) (e : Event) (t : Turn) (n : Note) → t ≡ Done n → new.job ≡ old.job → wait old.job (view_of old) e false ≡ None →
@@ -49,6 +50,9 @@ pub record IsLike (old new : Device) : Type 0 where
   pub plan : new.plan ≡ old.plan
   pub reads : new.calls.reads ≤ old.calls.reads + 1
   pub write_calls : new.calls.writes ≡ old.calls.writes
+
+pub like-itself : (d : Device) → IsLike d d
+like-itself d = record { shape = refl; writes = refl; plan = refl; reads = omega arith; write_calls = refl }
 
 -- what the counts of the writes read of a view
 pub record SameWrites (v w : View) : Type 0 where
@@ -96,18 +100,18 @@ pub stays : (s : State) (j : List Entry) (e : Event) (t : Turn) (source : Device
     shown (changed s j source phase stun next_page rounds outbox issued stream held credit) (effect s.job (run s.job s.journal) e) ≡ effect s.job (run s.job s.journal) e →
     (is_running phase ≡ false → next_page ≡ s.job.shape.pages) → next_page ≤ s.job.shape.pages → rounds ≤ 1 →
     IsState (changed s j source phase stun next_page rounds outbox issued stream held credit)
-stays s j e t source phase stun next_page rounds outbox issued stream held credit is n no told entered like same moved shows late within few =
+stays s j e t source phase stun next_page rounds outbox issued stream held credit is n other told entered like same moved shows late within few =
     let job = s.job in
     let v = run s.job s.journal in
     let w = effect s.job v e in
     let new = changed s j source phase stun next_page rounds outbox issued stream held credit in
     let journal : j ≡ next s e = entered ∙ ap (λ (x : Turn). s.journal ++ record { event = e; turn = x } ∷ []) (sym told) in
-    let ran : run s.job j ≡ w = ap (run s.job) journal ∙ n.run in
+    let ran : run s.job j ≡ w = ap (run s.job) journal ∙ n.becomes in
     let longer : length j ≡ length s.journal + 1 = ap (λ (x : List Entry). length x) entered ∙ length_push s.journal (record { event = e; turn = t }) in
     record {
       good = is.good;
       built = is.built;
-      is_run = subst (λ (x : List Entry). is_run s.job x ≡ true) (sym journal) n.is_run;
+      is_run = subst (λ (x : List Entry). is_run s.job x ≡ true) (sym journal) n.journal;
       view = subst (λ (x : List Entry). IsViewOf s.job (run s.job x)) (sym journal) n.view;
       shows = subst (λ (x : View). shown new x ≡ x) (sym ran) shows;
       contents = subst (λ (x : Contents). HoldsContents s.job (run s.job j) x) moved
@@ -121,10 +125,18 @@ stays s j e t source phase stun next_page rounds outbox issued stream held credi
       no_late_page = late;
       next_page_within = within;
       few_rounds = few;
-      not_begun = λ off. is.not_begun (sym (has_begin-push s.journal (record { event = e; turn = t }) no) ∙ ap has_begin (sym entered) ∙ off);
+      not_begun = λ off. is.not_begun (sym (has_begin-push s.journal (record { event = e; turn = t }) other) ∙ ap has_begin (sym entered) ∙ off);
       history_room = is.history_room;
       source_plan = subst (λ (p : Plan). (p.reads ≡ []) × (p.writes ≡ []) × (p.flushes ≡ [])) (sym like.plan) is.source_plan;
       dest_plan = is.dest_plan;
       source_calls = (let a = like.reads in let b = is.source_calls.0 in omega arith, let a = like.write_calls in let b = is.source_calls.1 in omega arith);
       dest_calls = (let b = is.dest_calls.0 in omega arith, let b = is.dest_calls.1 in omega arith);
     }
+
+-- an event that is done goes on
+same_done : (n : Note) → same_turn (Done n) (Done n) ≡ true
+same_done n = and_from (n.a == n.a) (n.b == n.b) (eq-eqb n.a n.a refl) (eq-eqb n.b n.b refl)
+
+pub next-done : (s : State) (e : Event) (n : Note) → IsState s → fits s.job e ≡ true → wait s.job (run s.job s.journal) e false ≡ None → answer s.job (run s.job s.journal) e ≡ Done n → Next s e
+next-done s e n is fit goes told =
+    next-holds s e is fit goes (ap is_flagged told) (subst (λ (t : Turn). same_turn t t ≡ true) (sym told) (same_done n))
