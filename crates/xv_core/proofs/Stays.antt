@@ -18,7 +18,7 @@ use Rattle.xv_core.specs.declared.message.Message.{Message}
 use Rattle.xv_device.specs.Device.{Plan}
 use Rattle.xv_device.specs.Memory.{Device}
 use Rattle.xv_core.specs.Seen.{Seen, IsStep, view_of, is_no_memory, source_writes, dest_writes}
-use Rattle.xv_core.specs.State.{State, IsState, shown, held_contents}
+use Rattle.xv_core.specs.State.{State, IsState, shown, held_contents, seen_of}
 use Rattle.xv_core.proofs.Runs.{Next, next, next-holds}
 use Rattle.xv_base.specs.declared.answer.Turn.TheVariants.{Done}
 
@@ -140,3 +140,14 @@ same_done n = and_from (n.a == n.a) (n.b == n.b) (eq-eqb n.a n.a refl) (eq-eqb n
 pub next-done : (s : State) (e : Event) (n : Note) → IsState s → fits s.job e ≡ true → wait s.job (run s.job s.journal) e false ≡ None → answer s.job (run s.job s.journal) e ≡ Done n → Next s e
 next-done s e n is fit goes told =
     next-holds s e is fit goes (ap is_flagged told) (subst (λ (t : Turn). same_turn t t ≡ true) (sym told) (same_done n))
+
+-- the same over what contracts see of a state
+pub goes-from : (s : State) (old : Seen) (e : Event) → seen_of s ≡ old → wait old.job (view_of old) e false ≡ None → wait s.job (run s.job s.journal) e false ≡ None
+goes-from s old e same goes = subst (λ (m : Seen). wait m.job (view_of m) e false ≡ None) (sym same) goes
+
+pub step-made : (s : State) (old new : Seen) (e : Event) (t : Turn) (n : Note) → seen_of s ≡ old → t ≡ Done n → new.job ≡ s.job → wait old.job (view_of old) e false ≡ None →
+    answer s.job (run s.job s.journal) e ≡ Done n → new.journal ≡ s.journal ++ record { event = e; turn = t } ∷ [] → IsStep old e t new
+step-made s old new e t n same done job goes told journal =
+    is_step old new e t n done (job ∙ ap (λ (m : Seen). m.job) same) goes
+        (subst (λ (m : Seen). answer m.job (view_of m) e ≡ Done n) same told)
+        (journal ∙ ap (λ (m : Seen). m.journal ++ record { event = e; turn = t } ∷ []) same)
