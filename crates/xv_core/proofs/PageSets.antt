@@ -1,6 +1,7 @@
 -- The pages from one on, as a set.
-use Rattle.std.specs.Prelude.{◌≡◌, ◌≤◌, ◌<◌, ℕ, zero, suc, ◌+◌, ◌-◌, Bool, true, false, List, [], ◌∷◌, ◌++◌, length, replicate, set}
-use Rattle.std.proofs.Common.{refl, ap, sym, subst, ◌∙◌, arith}
+use Rattle.std.specs.Prelude.{◌≡◌, ◌≤◌, ◌<◌, ℕ, zero, suc, ◌+◌, ◌-◌, ◌==◌, Bool, true, false, List, [], ◌∷◌, ◌++◌, length, replicate, set}
+use Rattle.std.proofs.Common.{refl, ap, sym, subst, ◌∙◌, arith, ⊎_elim}
+use Rattle.std.proofs.lemmas.Bool.{cases_lt, ne_eqb, eq-eqb}
 use Rattle.std.proofs.lemmas.List.{append-nil, length-replicate}
 use Rattle.xv_model.specs.View.{least, members, is_empty_set}
 use Rattle.xv_core.specs.State.{pages_from}
@@ -41,6 +42,11 @@ pub empty-pages : (n : ℕ) → is_empty_set (pages_from n n) ≡ true
 empty-pages n =
     let e : n - n ≡ 0 = omega arith in
     empty-front n (replicate (n - n) true) ∙ ap (λ m. is_empty_set (replicate m true)) e
+
+pub empty-is : (k n : ℕ) → k ≤ n → is_empty_set (pages_from k n) ≡ (k == n)
+empty-is k n le =
+    ⊎_elim (λ lt. some-pages k n lt ∙ sym (ne_eqb k n (λ e. omega arith)))
+        (λ ge. let e : k ≡ n = omega arith in ap (λ i. is_empty_set (pages_from i n)) e ∙ empty-pages n ∙ sym (eq-eqb k n e)) (cases_lt k n)
 
 pub all-pages : (n : ℕ) → pages_from 0 n ≡ replicate n true
 all-pages n = let e : n - 0 ≡ n = omega arith in ap (λ m. replicate m true) e
