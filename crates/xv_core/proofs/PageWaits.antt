@@ -136,3 +136,14 @@ pub sent-test : (s : State) (old : Seen) (pages : ℕ) → IsState s → seen_of
 sent-test s old pages is same count =
     ap (λ n. nat_eq s.next_page n) count ∙ sym (empty-is s.next_page s.job.shape.pages is.next_page_within)
     ∙ ap (λ (x : View). is_empty_set x.to_send) is.shows ∙ ap (λ (m : Seen). is_empty_set (view_of m).to_send) same
+
+pub not_not : (b : Bool) → b ≡ not (not b)
+not_not true = refl
+not_not false = refl
+
+-- four tests, made one after another
+pub four-by : (a b c d p q r t : Bool) (first second third all : Option Why) → first ≡ unless t NotNow None → second ≡ unless (not r) NotNow first → third ≡ unless (not q) NotNow second →
+    all ≡ unless (not p) NotNow third → p ≡ a → q ≡ b → r ≡ c → t ≡ not d → all ≡ four a b c d
+four-by a b c d p q r t first second third all w x y z pa qb rc td =
+    z ∙ ap (λ k. unless (not p) NotNow k) (y ∙ ap (λ k. unless (not q) NotNow k) (x ∙ ap (λ k. unless (not r) NotNow k) (w ∙ ap (λ k. unless k NotNow None) (not_not t))))
+    ∙ ap (λ k. four k q r (not t)) pa ∙ ap (λ k. four a k r (not t)) qb ∙ ap (λ k. four a b k (not t)) rc ∙ ap (λ k. four a b c k) (ap not td ∙ sym (not_not d))
