@@ -7,11 +7,12 @@ ghost use Rattle.xv_base.specs.Units.{units, size};
 ghost use Rattle.xv_device.specs.Device.{ReadRange, content};
 ghost use Rattle.xv_device.specs.Memory.{after};
 ghost use Rattle.xv_model.specs.View.{is_next, first_next};
+ghost use Rattle.xv_model.specs.Wait.{unless};
 ghost use Rattle.xv_core.specs.State.{heads, no_content};
 
 use std::alloc::Global;
 use std::collections::VecDeque;
-use xv_base::{Entry, Event, Note, Turn, UnitHead, UnitId, UnitOp};
+use xv_base::{Entry, Event, Note, Turn, UnitHead, UnitId, UnitOp, Why};
 use xv_device::MemDevice;
 
 use crate::message::{Content, Message};
@@ -27,6 +28,13 @@ pub fn recorded(journal: &mut Vec<Entry>, event: Event, a: u32, b: u32) -> Turn
         unreachable!()
     };
     turn
+}
+
+/// Waits for what a condition names where it holds, and else as a later one says.
+pub fn unless(holds: bool, why: Why, later: Option<Why>) -> Option<Why>
+    ensures { result ≡ unless holds why later }
+{
+    if holds { Some(why) } else { later }
 }
 
 /// The bytes that a write of a whole unit leaves there; none for want of memory.

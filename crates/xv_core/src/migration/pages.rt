@@ -9,50 +9,44 @@ ghost use Rattle.xv_base.specs.declared.event.Event.TheVariants.{Round, Page, St
 
 use std::alloc::Global;
 use xv_base::{Event, Phase, Turn, UnitId, Why};
+use xv_job::Job;
 
 use crate::migration::Migration;
 use crate::phase::{is_live, is_running};
-use crate::steps::{content_of, issue, recorded};
+use crate::steps::{content_of, issue, recorded, unless};
 
 impl Migration {
     pub(super) fn round_waits(&self) -> Option<Why>
         ensures { result ≡ wait self.now.job (view_of self.now) Round false }
     {
-        if is_running(self.phase) && self.is_round_sent() && self.is_copied() && self.rounds == 0 {
-            return None;
-        }
-        Some(Why::NotNow)
+        let begun = unless(self.rounds != 0, Why::NotNow, None);
+        let uncopied = unless(!self.is_copied(), Why::NotNow, begun);
+        let unsent = unless(!self.is_round_sent(), Why::NotNow, uncopied);
+        unless(!is_running(self.phase), Why::NotNow, unsent)
     }
 
     pub(super) fn page_waits(&self) -> Option<Why>
         ensures { result ≡ wait self.now.job (view_of self.now) Page false }
     {
-        if !is_live(self.phase) {
-            return Some(Why::NotNow);
-        }
-        if self.is_round_sent() {
-            return Some(Why::NothingThere);
-        }
-        if self.is_full() {
-            return Some(Why::Throttled);
-        }
-        None
+        let full = unless(self.is_full(), Why::Throttled, None);
+        let sent = unless(self.is_round_sent(), Why::NothingThere, full);
+        unless(!is_live(self.phase), Why::NotNow, sent)
     }
 
     pub(super) fn stun_waits(&self) -> Option<Why>
         ensures { result ≡ wait self.now.job (view_of self.now) Stun false }
     {
-        if is_running(self.phase) && self.is_copied() && self.is_round_sent() && self.rounds != 0 {
-            return None;
-        }
-        Some(Why::NotNow)
+        let first = unless(self.rounds == 0, Why::NotNow, None);
+        let unsent = unless(!self.is_round_sent(), Why::NotNow, first);
+        let uncopied = unless(!self.is_copied(), Why::NotNow, unsent);
+        unless(!is_running(self.phase), Why::NotNow, uncopied)
     }
 
     /// Whether every page of the round was sent off.
     pub(super) fn is_round_sent(&self) -> bool
         ensures { result ≡ is_empty_set (view_of self.now).to_send }
     {
-        self.next_page == self.job.layout.pages()
+        self.next_page == pages(&self.job)
     }
 
     pub(super) fn round(&mut self) -> Turn
@@ -64,7 +58,8 @@ impl Migration {
         }
         self.next_page = 0;
         self.rounds = 1;
-        recorded(&mut self.journal, Event::Round, self.job.layout.pages(), 0)
+        let count = pages(&self.job);
+        recorded(&mut self.journal, Event::Round, count, 0)
     }
 
     pub(super) fn page(&mut self, alloc: Global) -> Turn
@@ -95,4 +90,11 @@ impl Migration {
         self.stun = Some(self.history.len());
         recorded(&mut self.journal, Event::Stun, 0, 0)
     }
+}
+
+/// How many pages the machine has.
+fn pages(job: &Job) -> u32
+    ensures { result ≡ job.now.shape.pages }
+{
+    job.layout.pages()
 }

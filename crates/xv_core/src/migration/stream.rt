@@ -12,34 +12,22 @@ use xv_base::{Event, Turn, Why};
 
 use crate::migration::Migration;
 use crate::phase::is_live;
-use crate::steps::{moved, recorded};
+use crate::steps::{moved, recorded, unless};
 
 impl Migration {
     pub(super) fn send_waits(&self) -> Option<Why>
         ensures { result ≡ wait self.now.job (view_of self.now) (Send 0) false }
     {
-        if !is_live(self.phase) {
-            return Some(Why::NotNow);
-        }
-        if self.outbox.is_empty() {
-            return Some(Why::NothingThere);
-        }
-        if self.credit == 0 {
-            return Some(Why::NoCredit);
-        }
-        None
+        let spent = unless(self.credit == 0, Why::NoCredit, None);
+        let empty = unless(self.outbox.is_empty(), Why::NothingThere, spent);
+        unless(!is_live(self.phase), Why::NotNow, empty)
     }
 
     pub(super) fn deliver_waits(&self) -> Option<Why>
         ensures { result ≡ wait self.now.job (view_of self.now) (Deliver 0) false }
     {
-        if !is_live(self.phase) {
-            return Some(Why::NotNow);
-        }
-        if self.stream.is_empty() {
-            return Some(Why::NothingThere);
-        }
-        None
+        let empty = unless(self.stream.is_empty(), Why::NothingThere, None);
+        unless(!is_live(self.phase), Why::NotNow, empty)
     }
 
     pub(super) fn send(&mut self) -> Turn
