@@ -1,12 +1,13 @@
 -- The events of the copy: what they leave is a state.
 use Rattle.std.specs.Prelude.{◌≡◌, ◌≢◌, ◌≤◌, ◌<◌, ℕ, zero, suc, ◌+◌, ◌-◌, ◌||◌, min, nat_lt, Bool, true, false, List, [], ◌∷◌, ◌++◌, length, map, set, get_or, None}
-use Rattle.std.proofs.Common.{arith, refl, ap, sym, subst, ◌∙◌}
+use Rattle.std.proofs.Common.{arith, refl, ap, sym, subst, ◌∙◌, length-append}
+use Rattle.std.proofs.lemmas.List.{map-append}
 use Rattle.std.specs.Prelude.{slice_index}
 use Rattle.xv_model.specs.Job.{Job, unit_count, blocks, unit_of_block}
 use Rattle.xv_model.specs.View.{View, Disk, Outbox, disk, number, is_running}
 use Rattle.xv_model.specs.Wait.{Event, wait, fits}
-use Rattle.xv_model.specs.Effect.{Turn, effect, answer, with_disk, cursor_unit, made}
-use Rattle.xv_model.specs.Step.{Entry, run, is_flagged, same_turn}
+use Rattle.xv_model.specs.Effect.{Turn, effect, answer, with_disk, cursor_unit, made, made_run}
+use Rattle.xv_model.specs.Step.{Entry, run}
 use Rattle.xv_model.specs.Invariant.{IsViewOf}
 use Rattle.xv_model.specs.Contents.{moves, unit_content}
 use Rattle.xv_model.proofs.GoesOn.{begin_goes, read_goes, advance_goes, BeginGoes, ReadGoes, AdvanceGoes}
@@ -16,7 +17,7 @@ use Rattle.xv_core.specs.State.{State, IsState, shown, held_contents, heads, con
 use Rattle.xv_core.specs.declared.message.Message.{Message}
 use Rattle.xv_device.specs.Device.{ReadRange}
 use Rattle.xv_device.specs.Memory.{Device, after}
-use Rattle.xv_core.proofs.Runs.{Next, next, next-holds}
+use Rattle.xv_core.proofs.Runs.{Next, next, next-done}
 use Rattle.xv_core.proofs.Plain.{Plain, plain, state-next, has_begin-push, not_begun-before, length-next}
 use Rattle.xv_base.specs.declared.event.Event.TheVariants.{Guest, Begin, Read, Advance}
 use Rattle.xv_base.specs.declared.answer.Turn.TheVariants.{Done}
@@ -86,9 +87,7 @@ pub begin-answer : (s : State) → IsState s → wait s.job (run s.job s.journal
 begin-answer s is goes = shown-answer s (Begin 0) _ is (ap (λ n. Done (record { a = n; b = 0 })) (begin-length s is goes))
 
 pub begin-next : (s : State) → IsState s → wait s.job (run s.job s.journal) (Begin 0) false ≡ None → Next s (Begin 0)
-begin-next s is goes =
-    let told = begin-answer s is goes in
-    next-holds s (Begin 0) is (one-fits s.job is.built) goes (ap is_flagged told) (ap (λ t. same_turn t t) told)
+begin-next s is goes = next-done s (Begin 0) _ is (one-fits s.job is.built) goes (begin-answer s is goes)
 
 pub begin-holds : (s : State) (j : List Entry) → IsState s → wait s.job (run s.job s.journal) (Begin 0) false ≡ None → j ≡ next s (Begin 0) → IsState (record s { journal = j; region = 1 })
 begin-holds s j is goes same =
@@ -116,6 +115,147 @@ begin-holds s j is goes same =
         next_page_within = p.next_page_within;
         few_rounds = p.few_rounds;
         not_begun = λ h. let on = sym (ap has_begin same ∙ has_begin-push s.journal _ ∙ or-true (has_begin s.journal)) ∙ h in absurd (cc);
+        history_room = p.history_room;
+        source_plan = p.source_plan;
+        dest_plan = p.dest_plan;
+        source_calls = (omega (arith, p.source_calls), omega (arith, p.source_calls));
+        dest_calls = (omega (arith, p.dest_calls), omega (arith, p.dest_calls));
+      })
+
+-- a block of the region is read
+pub read-goes : (s : State) → IsState s → wait s.job (run s.job s.journal) (Read 0) false ≡ None → ReadGoes s.job (shown s (run s.job s.journal)) 0
+read-goes s is goes = read_goes s.job (shown s (run s.job s.journal)) 0 false (shown-goes s (Read 0) is goes)
+
+pub none-read : (s : State) → IsState s → wait s.job (run s.job s.journal) (Read 0) false ≡ None → length s.blocks ≡ 0
+none-read s is goes =
+    let l = lies s is in
+    let more : length s.blocks < s.region = (read-goes s is goes).not_read in
+    omega arith
+
+pub read-in : (s : State) → IsState s → wait s.job (run s.job s.journal) (Read 0) false ≡ None → s.cursor < blocks s.job.shape.disks 0
+read-in s is goes =
+    let l = lies s is in
+    let more : length s.blocks < s.region = (read-goes s is goes).not_read in
+    omega arith
+
+-- the unit of the block at the cursor
+abbrev pub block-unit : State → ℕ
+block-unit s = unit_of_block s.job.shape 0 s.cursor
+
+block-number : (s : State) → IsState s → wait s.job (run s.job s.journal) (Read 0) false ≡ None → block-unit s + length s.blocks ≡ block-unit s
+block-number s is goes = let none = none-read s is goes in omega arith
+
+pub read-answer : (s : State) → IsState s → wait s.job (run s.job s.journal) (Read 0) false ≡ None → answer s.job (run s.job s.journal) (Read 0) ≡ Done (record { a = block-unit s; b = 0 })
+read-answer s is goes = shown-answer s (Read 0) _ is (ap (λ n. Done (record { a = n; b = 0 })) (block-number s is goes))
+
+pub read-next : (s : State) → IsState s → wait s.job (run s.job s.journal) (Read 0) false ≡ None → Next s (Read 0)
+read-next s is goes = next-done s (Read 0) _ is (one-fits s.job is.built) goes (read-answer s is goes)
+
+read-by : (s : State) (j : List Entry) (n : ℕ) → IsState s → wait s.job (run s.job s.journal) (Read 0) false ≡ None → j ≡ next s (Read 0) →
+    IsState (record s { journal = j; source = after (ReadRange (block-unit s) 0 n) false s.source; blocks = s.blocks ++ unit_content s.source.contents (block-unit s) ∷ [] })
+read-by s j n is goes same =
+    let v = run s.job s.journal in
+    let new : State = record s { journal = j; source = after (ReadRange (block-unit s) 0 n) false s.source; blocks = s.blocks ++ unit_content s.source.contents (block-unit s) ∷ [] } in
+    let longer : length j ≡ length s.journal + 1 = ap length same ∙ length-next s (Read 0) in
+    let p = plain s is in
+    state-next s new (Read 0) (read-next s is goes) refl same
+      (shown-effect s new (Read 0) is (ap (λ k. with_disk (shown s v) 0 (disk-with s.cursor s.region k)) (length-append s.blocks (unit_content s.source.contents (block-unit s) ∷ []))))
+      (shown-moves s new (Read 0) is (ap (λ u. record (held_contents s) { regions = (s.blocks ++ unit_content s.source.contents u ∷ []) ∷ [] }) (sym (block-number s is goes))))
+      (record {
+        good = p.good;
+        built = p.built;
+        unwritten = p.unwritten;
+        source_made = p.source_made;
+        dest_made = p.dest_made;
+        source_shape = p.source_shape;
+        dest_shape = p.dest_shape;
+        no_late_page = p.no_late_page;
+        next_page_within = p.next_page_within;
+        few_rounds = p.few_rounds;
+        not_begun = λ h. p.not_begun (not_begun-before s (Read 0) (sym (ap has_begin same) ∙ h));
+        history_room = p.history_room;
+        source_plan = p.source_plan;
+        dest_plan = p.dest_plan;
+        source_calls = (omega (arith, p.source_calls), omega (arith, p.source_calls));
+        dest_calls = (omega (arith, p.dest_calls), omega (arith, p.dest_calls));
+      })
+
+pub read-holds : (s : State) (j : List Entry) (unit n : ℕ) (source : Device) (blocks : List (List ℕ)) → IsState s → wait s.job (run s.job s.journal) (Read 0) false ≡ None → j ≡ next s (Read 0) →
+    unit ≡ block-unit s → source ≡ after (ReadRange unit 0 n) false s.source → blocks ≡ s.blocks ++ unit_content s.source.contents unit ∷ [] → IsState (record s { journal = j; source = source; blocks = blocks })
+read-holds s j unit n source blocks is goes same at read more =
+    subst (λ bs. IsState (record s { journal = j; source = source; blocks = bs })) (sym (more ∙ ap (λ u. s.blocks ++ unit_content s.source.contents u ∷ []) at))
+    (subst (λ d. IsState (record s { journal = j; source = d; blocks = s.blocks ++ unit_content s.source.contents (block-unit s) ∷ [] })) (sym (read ∙ ap (λ u. after (ReadRange u 0 n) false s.source) at)) (read-by s j n is goes same))
+
+-- the region is over, and its block is behind
+pub advance-goes : (s : State) → IsState s → wait s.job (run s.job s.journal) (Advance 0) false ≡ None → AdvanceGoes s.job (shown s (run s.job s.journal)) 0
+advance-goes s is goes = advance_goes s.job (shown s (run s.job s.journal)) 0 false (shown-goes s (Advance 0) is goes)
+
+pub one-region : (s : State) → IsState s → wait s.job (run s.job s.journal) (Advance 0) false ≡ None → s.region ≡ 1
+one-region s is goes =
+    let l = lies s is in
+    let some : 0 < s.region = (advance-goes s is goes).some_region in
+    omega arith
+
+pub one-read : (s : State) → IsState s → wait s.job (run s.job s.journal) (Advance 0) false ≡ None → length s.blocks ≡ 1
+one-read s is goes =
+    let l = lies s is in
+    let one = one-region s is goes in
+    let all : s.region ≤ length s.blocks = (advance-goes s is goes).all_read in
+    omega arith
+
+pub advance-in : (s : State) → IsState s → wait s.job (run s.job s.journal) (Advance 0) false ≡ None → s.cursor < blocks s.job.shape.disks 0
+advance-in s is goes =
+    let l = lies s is in
+    let one = one-region s is goes in
+    omega arith
+
+pub advance-answer : (s : State) → IsState s → wait s.job (run s.job s.journal) (Advance 0) false ≡ None → answer s.job (run s.job s.journal) (Advance 0) ≡ Done (record { a = 1; b = 0 })
+advance-answer s is goes = shown-answer s (Advance 0) _ is (ap (λ n. Done (record { a = n; b = 0 })) (one-region s is goes))
+
+pub advance-next : (s : State) → IsState s → wait s.job (run s.job s.journal) (Advance 0) false ≡ None → Next s (Advance 0)
+advance-next s is goes = next-done s (Advance 0) _ is (one-fits s.job is.built) goes (advance-answer s is goes)
+
+-- the message of a unit's next version
+abbrev pub next-message : State → ℕ → List ℕ → Message
+next-message s unit content = record { head = record { unit = record { 0 = unit }; version = number s.issued unit + 1; at = length s.history }; content = content }
+
+no-more : (s : State) → block-unit s + 0 ≡ block-unit s
+no-more s = omega arith
+
+advance-by : (s : State) (j : List Entry) (block : List ℕ) → IsState s → wait s.job (run s.job s.journal) (Advance 0) false ≡ None → j ≡ next s (Advance 0) → s.blocks ≡ block ∷ [] →
+    IsState (record s { journal = j; cursor = s.cursor + 1; region = 0; blocks = []; outbox = s.outbox ++ next-message s (block-unit s) block ∷ []; issued = set s.issued (block-unit s) (number s.issued (block-unit s) + 1) })
+advance-by s j block is goes same read =
+    let v = run s.job s.journal in
+    let message = next-message s (block-unit s) block in
+    let new : State = record s { journal = j; cursor = s.cursor + 1; region = 0; blocks = []; outbox = s.outbox ++ message ∷ []; issued = set s.issued (block-unit s) (number s.issued (block-unit s) + 1) } in
+    let longer : length j ≡ length s.journal + 1 = ap length same ∙ length-next s (Advance 0) in
+    let p = plain s is in
+    let at_one : View = record (shown s v) { disks = disk-with (s.cursor + 1) 0 0 ∷ []; outbox = made (shown s v).outbox (block-unit s) (length s.history) } in
+    let does : at_one ≡ effect s.job (shown s v) (Advance 0) =
+        ap (λ u. record (shown s v) { disks = disk-with (s.cursor + 1) 0 0 ∷ []; outbox = made (shown s v).outbox u (length s.history) }) (sym (no-more s))
+        ∙ ap (λ r. record (shown s v) { disks = disk-with (s.cursor + r) 0 0 ∷ []; outbox = made_run (shown s v).outbox (block-unit s) (length s.history) r }) (sym (one-region s is goes)) in
+    let shows : shown new at_one ≡ at_one = ap (λ ms. record at_one { outbox = record at_one.outbox { messages = ms } }) (map-append (λ (m : Message). m.head) s.outbox (message ∷ [])) in
+    let holds : held_contents new ≡ moves s.job (shown s v) (Advance 0) (held_contents s) =
+        ap (λ ms. record (held_contents s) { regions = [] ∷ []; outbox = ms }) (map-append (λ (m : Message). m.content) s.outbox (message ∷ []))
+        ∙ ap (λ bs. record (held_contents s) { regions = [] ∷ []; outbox = contents s.outbox ++ bs }) (sym read) in
+    state-next s new (Advance 0) (advance-next s is goes) refl same
+      (shown-effect s new (Advance 0) is (subst (λ w. shown new w ≡ w) does shows))
+      (shown-moves s new (Advance 0) is holds)
+      (record {
+        good = p.good;
+        built = p.built;
+        unwritten = p.unwritten;
+        source_made = p.source_made;
+        dest_made = p.dest_made;
+        source_shape = p.source_shape;
+        dest_shape = p.dest_shape;
+        no_late_page = p.no_late_page;
+        next_page_within = p.next_page_within;
+        few_rounds = p.few_rounds;
+        not_begun = λ h.
+            let none : s.region ≡ 0 = (p.not_begun (not_begun-before s (Advance 0) (sym (ap has_begin same) ∙ h))).1 in
+            let one = one-region s is goes in
+            absurd (omega arith);
         history_room = p.history_room;
         source_plan = p.source_plan;
         dest_plan = p.dest_plan;
