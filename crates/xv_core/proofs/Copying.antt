@@ -2,15 +2,16 @@
 use Rattle.std.specs.Prelude.{◌≡◌, ◌≢◌, ◌≤◌, ◌<◌, ℕ, zero, suc, ◌+◌, ◌-◌, ◌||◌, min, nat_lt, Bool, true, false, List, [], ◌∷◌, ◌++◌, length, map, set, get_or, None}
 use Rattle.std.proofs.Common.{arith, refl, ap, sym, subst, ◌∙◌, length-append}
 use Rattle.std.proofs.lemmas.List.{map-append}
-use Rattle.std.specs.Prelude.{slice_index}
-use Rattle.xv_model.specs.Job.{Job, unit_count, blocks, unit_of_block}
-use Rattle.xv_model.specs.View.{View, Disk, Outbox, disk, number, is_running}
+use Rattle.std.specs.Prelude.{slice_index, slice_set}
+use Rattle.xv_model.specs.Job.{Job, UnitId, unit_count, blocks, unit_of_block}
+use Rattle.xv_model.specs.View.{View, Disk, Outbox, disk, number, no_disk}
 use Rattle.xv_model.specs.Wait.{Event, wait, fits}
 use Rattle.xv_model.specs.Effect.{Turn, effect, answer, with_disk, cursor_unit, made, made_run}
 use Rattle.xv_model.specs.Step.{Entry, run}
 use Rattle.xv_model.specs.Invariant.{IsViewOf}
 use Rattle.xv_model.specs.Contents.{moves, unit_content}
 use Rattle.xv_model.proofs.GoesOn.{begin_goes, read_goes, advance_goes, BeginGoes, ReadGoes, AdvanceGoes}
+use Rattle.xv_model.proofs.Layouts.{is_block, unsent_block_from, cursor_of}
 use Rattle.xv_job.specs.Built.{IsBuilt}
 use Rattle.xv_job.specs.BuiltEvents.{has_begin}
 use Rattle.xv_core.specs.State.{State, IsState, shown, held_contents, heads, contents}
@@ -262,3 +263,40 @@ advance-by s j block is goes same read =
         source_calls = (omega (arith, p.source_calls), omega (arith, p.source_calls));
         dest_calls = (omega (arith, p.dest_calls), omega (arith, p.dest_calls));
       })
+
+-- the block at the cursor has no message yet
+pub unmade : (s : State) → IsState s → s.cursor < blocks s.job.shape.disks 0 → number s.issued (block-unit s) ≡ 0
+unmade s is l =
+    let one = is.built.one_disk in
+    let b = is_block s.job.shape 0 s.cursor (omega arith) l in
+    let disks : List Disk = disk-with s.cursor s.region (length s.blocks) ∷ [] in
+    let here : cursor_of s.job.shape disks (block-unit s) ≡ s.cursor = ap (λ d. (get_or disks d no_disk).cursor) b.disk in
+    (shown-view s is).unsent.none (block-unit s) (unsent_block_from s.job.shape disks (block-unit s) (record { in_range = b.in_range; no_page = b.no_page; not_behind = omega (arith, here, b.block) }))
+
+pub advance-unit : (s : State) → IsState s → s.cursor < blocks s.job.shape.disks 0 → block-unit s < unit_count s.job
+advance-unit s is l = let one = is.built.one_disk in (is_block s.job.shape 0 s.cursor (omega arith) l).in_range
+
+last-left : {X : Type 0} (xs : List X) (x : X) → length (xs ++ x ∷ []) ≡ 1 → xs ≡ []
+last-left [] x e = refl
+last-left (y ∷ xs) x e = absurd (let l = length-append xs (x ∷ []) in omega arith)
+
+pub advance-holds : (s : State) (j : List Entry) (unit : UnitId) (version at cursor : ℕ) (block : List ℕ) (blocks : List (List ℕ)) (outbox : List Message) (issued : List ℕ) →
+    IsState s → wait s.job (run s.job s.journal) (Advance 0) false ≡ None → j ≡ next s (Advance 0) → unit.0 ≡ block-unit s → s.blocks ≡ blocks ++ block ∷ [] → at ≡ length s.history →
+    version ≡ slice_index s.issued unit.0 + 1 → issued ≡ slice_set s.issued unit.0 version → outbox ≡ s.outbox ++ record { head = record { unit = unit; version = version; at = at }; content = block } ∷ [] → cursor ≡ s.cursor + 1 →
+    IsState (record s { journal = j; cursor = cursor; region = 0; blocks = blocks; outbox = outbox; issued = issued })
+advance-holds s j unit version at cursor block blocks outbox issued is goes same is_unit last is_at is_version is_issued is_outbox is_cursor =
+    let none : blocks ≡ [] = last-left blocks block (sym (ap length last) ∙ one-read s is goes) in
+    let read : s.blocks ≡ block ∷ [] = last ∙ ap (λ bs. bs ++ block ∷ []) none in
+    let this : unit ≡ record { 0 = block-unit s } = ap (λ (n : ℕ). record { 0 = n }) is_unit in
+    let number_of : version ≡ number s.issued (block-unit s) + 1 = is_version ∙ ap (λ u. number s.issued u + 1) is_unit in
+    let all_issued : issued ≡ set s.issued (block-unit s) (number s.issued (block-unit s) + 1) = is_issued ∙ ap (λ n. set s.issued unit.0 n) number_of ∙ ap (λ u. set s.issued u (number s.issued (block-unit s) + 1)) is_unit in
+    let sent : outbox ≡ s.outbox ++ next-message s (block-unit s) block ∷ [] =
+        is_outbox
+        ∙ ap (λ (u : UnitId). s.outbox ++ record { head = record { unit = u; version = version; at = at }; content = block } ∷ []) this
+        ∙ ap (λ n. s.outbox ++ record { head = record { unit = record { 0 = block-unit s }; version = n; at = at }; content = block } ∷ []) number_of
+        ∙ ap (λ n. s.outbox ++ record { head = record { unit = record { 0 = block-unit s }; version = number s.issued (block-unit s) + 1; at = n }; content = block } ∷ []) is_at in
+    let by = advance-by s j block is goes same read in
+    subst (λ c. IsState (record s { journal = j; cursor = c; region = 0; blocks = blocks; outbox = outbox; issued = issued })) (sym is_cursor)
+    (subst (λ bs. IsState (record s { journal = j; cursor = s.cursor + 1; region = 0; blocks = bs; outbox = outbox; issued = issued })) (sym none)
+    (subst (λ ms. IsState (record s { journal = j; cursor = s.cursor + 1; region = 0; blocks = []; outbox = ms; issued = issued })) (sym sent)
+    (subst (λ ns. IsState (record s { journal = j; cursor = s.cursor + 1; region = 0; blocks = []; outbox = s.outbox ++ next-message s (block-unit s) block ∷ []; issued = ns })) (sym all_issued) by)))
