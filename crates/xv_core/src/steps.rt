@@ -58,8 +58,8 @@ pub fn content_of(alloc: Global, device: &mut MemDevice, unit: UnitId) -> Option
     ensures content { IfSome result (λ found. found ≡ content device.old.contents unit.0) }
     ensures unread { IfNone result (device.new ≡ device.old) }
 {
-    let size = device.layout().size(unit);
-    let mut bytes = Vec::from_elem(alloc, 0, size as usize).ok()?;
+    let size = device.content(unit).len();
+    let mut bytes = Vec::from_elem(alloc, 0, size).ok()?;
     let Ok(()) = device.read(unit, 0, &mut bytes) else {
         unreachable!()
     };
