@@ -9,23 +9,20 @@ ghost use Rattle.xv_base.specs.declared.event.Event.TheVariants.{Apply, Ack, Cre
 
 use std::alloc::Global;
 use xv_base::{Event, Phase, Turn, Why};
+use xv_job::Job;
 
 use crate::migration::Migration;
 use crate::message::Message;
 use crate::phase::{is_live, is_stunned};
-use crate::steps::{first_next, recorded};
+use crate::steps::{first_next, recorded, unless};
 
 impl Migration {
     pub(super) fn apply_waits(&self) -> Option<Why>
         ensures { result ≡ wait self.now.job (view_of self.now) Apply false }
     {
-        if !is_live(self.phase) {
-            return Some(Why::NotNow);
-        }
-        if first_next(&self.held, &self.applied) == self.held.len() {
-            return Some(Why::NothingThere);
-        }
-        None
+        let none = first_next(&self.held, &self.applied) == self.held.len();
+        let empty = unless(none, Why::NothingThere, None);
+        unless(!is_live(self.phase), Why::NotNow, empty)
     }
 
     pub(super) fn ack_waits(&self) -> Option<Why>
@@ -55,11 +52,10 @@ impl Migration {
     pub(super) fn switch_waits(&self) -> Option<Why>
         ensures { result ≡ wait self.now.job (view_of self.now) Switch false }
     {
-        let nothing_left = self.is_round_sent() && self.outbox.is_empty();
-        if is_stunned(self.phase) && nothing_left && self.job.config.credit <= self.credit {
-            return None;
-        }
-        Some(Why::NotNow)
+        let owed = unless(self.credit < whole_credit(&self.job), Why::NotNow, None);
+        let unsent = unless(!self.outbox.is_empty(), Why::NotNow, owed);
+        let unread = unless(!self.is_round_sent(), Why::NotNow, unsent);
+        unless(!is_stunned(self.phase), Why::NotNow, unread)
     }
 
     pub(super) fn apply(&mut self) -> Turn
@@ -121,4 +117,11 @@ impl Migration {
         self.phase = Phase::Switched;
         recorded(&mut self.journal, Event::Switch, 0, 0)
     }
+}
+
+/// How many messages may be on the streams and held together.
+fn whole_credit(job: &Job) -> u32
+    ensures { result ≡ job.now.config.credit }
+{
+    job.config.credit
 }
