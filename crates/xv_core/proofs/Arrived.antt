@@ -88,11 +88,11 @@ one_at_most : (b : Bool) → (if b then 1 else 0) ≤ 1
 one_at_most true = omega arith
 one_at_most false = omega arith
 
-writes-le : (job : Job) (h : List Ended) (unit n : ℕ) → writes job h unit n ≤ n
+pub writes-le : (job : Job) (h : List Ended) (unit n : ℕ) → writes job h unit n ≤ n
 writes-le job h unit zero = omega arith
 writes-le job h unit (suc n) = let r = writes-le job h unit n in let one = one_at_most (wrote job h unit n) in omega arith
 
-one_more : (b : Bool) → (if b then 0 else 1) ≤ 1
+pub one_more : (b : Bool) → (if b then 0 else 1) ≤ 1
 one_more true = omega arith
 one_more false = omega arith
 

@@ -8,6 +8,7 @@ mod migration;
 mod parts;
 mod phase;
 mod steps;
+mod sums;
 
 pub use message::{Content, Message};
 pub use migration::Migration;

@@ -24,6 +24,7 @@ mod arrival;
 mod copying;
 mod pages;
 mod stream;
+mod telling;
 
 /// A migration: its job, its journal and its two devices, with the messages between them.
 #[derive(Drop)]
