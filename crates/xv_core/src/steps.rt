@@ -7,14 +7,22 @@ ghost use Rattle.xv_base.specs.Units.{units, size};
 ghost use Rattle.xv_device.specs.Device.{ReadRange, content};
 ghost use Rattle.xv_device.specs.Memory.{after};
 ghost use Rattle.xv_model.specs.View.{first_next};
+ghost use Rattle.xv_model.specs.Wait.{unless};
 ghost use Rattle.xv_core.specs.State.{heads, no_content};
 
 use std::alloc::Global;
 use std::collections::VecDeque;
-use xv_base::{Entry, Event, Note, Turn, UnitHead, UnitId, UnitOp};
+use xv_base::{Entry, Event, Note, Turn, UnitHead, UnitId, UnitOp, Why};
 use xv_device::MemDevice;
 
 use crate::message::{Content, Message};
+
+/// Waits for what a condition names where it holds, and else as a later one says.
+pub fn unless(holds: bool, why: Why, later: Option<Why>) -> Option<Why>
+    ensures { result ≡ unless holds why later }
+{
+    if holds { Some(why) } else { later }
+}
 
 /// Enters an event that is done into the journal, which has room for it.
 pub fn recorded(journal: &mut Vec<Entry>, event: Event, a: u32, b: u32) -> Turn
