@@ -1,19 +1,20 @@
 -- A write of the guest, before the copy begins: what it leaves is a state.
-use Rattle.std.specs.Prelude.{◌≡◌, ◌≤◌, ◌<◌, ℕ, zero, suc, ◌+◌, ◌-◌, ◌||◌, ◌&&◌, ◌==◌, not, nat_lt, nat_le, is_some, Bool, true, false, List, [], ◌∷◌, ◌++◌, length, map, set, take, drop, get_or, Option, None, Some, if◌then◌else◌, sum_by}
+use Rattle.std.specs.Prelude.{◌≡◌, ◌≤◌, ◌<◌, ℕ, zero, suc, ◌+◌, ◌-◌, ◌||◌, ◌&&◌, ◌==◌, not, nat_lt, nat_le, is_some, is_none, unwrap_or, Bool, true, false, List, [], ◌∷◌, ◌++◌, length, map, set, take, drop, get_or, Option, None, Some, if◌then◌else◌, sum_by}
 use Rattle.std.proofs.Common.{arith, refl, ap, sym, subst, ◌∙◌, length-append}
-use Rattle.std.proofs.lemmas.List.{append-nil}
+use Rattle.std.proofs.lemmas.List.{append-nil, length-set, get_or-set_same, get_or-set_other}
+use Rattle.std.proofs.Math.ListN.{drop_of_length-le}
 use Rattle.std.proofs.lemmas.List.Sums.{sum_by-cons}
-use Rattle.std.proofs.lemmas.Bool.{eq-eqb, ne_eqb, le-ltb, le-leb, lt-leb}
+use Rattle.std.proofs.lemmas.Bool.{eq-eqb, eqb-true, eqb-false, ne_eqb, le-ltb, le-leb, lt-leb}
 use Rattle.xv_base.specs.Pattern.{repeated}
 use Rattle.xv_base.specs.declared.unit.DiskShape.{DiskShape}
 use Rattle.xv_model.specs.Job.{Job, UnitId, UnitOp, IsGoodJob, trace, operation, guest_count, operation_count, unit_count, size, blocks, is_page, disk_of, block_of}
-use Rattle.xv_model.specs.Guest.{Ended, ended, wrote, writes, writes_to, content}
+use Rattle.xv_model.specs.Guest.{Ended, ended, wrote, writes, writes_to, content, overlaid, part}
 use Rattle.xv_model.specs.View.{View, Disk, Phase, no_disk, disk, number, is_running, is_stunned, is_switched, is_live, is_behind, is_inside, is_copied, all_copied, all_copied_by}
-use Rattle.xv_model.specs.Wait.{Event, Why, Aim, Alone, Store, Join, Mirror, is_mirror, next_aim, next_operation, reaches, unless, wait, fits}
+use Rattle.xv_model.specs.Wait.{Event, Why, Aim, Alone, Store, Join, Mirror, is_join, is_mirror, next_aim, next_operation, reaches, unless, wait, fits}
 use Rattle.xv_model.specs.Effect.{Turn, effect, answer, guest_by, guest_answer}
 use Rattle.xv_model.specs.Step.{Entry, run}
 use Rattle.xv_model.specs.Invariant.{IsViewOf}
-use Rattle.xv_model.specs.Contents.{Contents, moves, unit_content, after_operation}
+use Rattle.xv_model.specs.Contents.{Contents, HoldsContents, moves, unit_content, after_operation}
 use Rattle.xv_model.proofs.GoesOn.{aim_of, guest_goes, GuestGoes}
 use Rattle.xv_model.proofs.Histories.{push, writes-push_at}
 use Rattle.xv_model.proofs.Layouts.{block_from}
@@ -24,7 +25,7 @@ use Rattle.xv_core.specs.State.{State, IsState, shown, held_contents}
 use Rattle.xv_device.specs.Device.{WriteUnit}
 use Rattle.xv_device.specs.Memory.{Device, after}
 use Rattle.xv_core.proofs.Runs.{Next, next, next-done}
-use Rattle.xv_core.proofs.Plain.{Plain, plain, state-next, not_begun-before, length-next}
+use Rattle.xv_core.proofs.Plain.{Plain, plain, source_reach, state-next, not_begun-before, length-next}
 use Rattle.xv_core.proofs.Copying.{shown-view, shown-goes, shown-wait, shown-effect, shown-moves, shown-answer}
 use Rattle.xv_base.specs.declared.operation.Outcome.TheVariants.{Done as Happened}
 use Rattle.xv_base.specs.declared.event.Event.TheVariants.{Guest}
@@ -207,3 +208,126 @@ few-one false k n l = omega arith
 pub writes-few : (job : Job) (h : List Ended) (unit n : ℕ) → writes job h unit n ≤ n
 writes-few job h unit zero = omega arith
 writes-few job h unit (suc n) = few-one (wrote job h unit n) (writes job h unit n) n (writes-few job h unit n)
+
+-- the write on the source
+after-written : (w : Option (List ℕ)) (pattern : List ℕ) (offset n : ℕ) (old : List ℕ) → w ≡ Some pattern → offset ≡ 0 → length old ≡ n → overlaid w offset n old ≡ repeated pattern n
+after-written None pattern offset n old e z l = absurd (cc)
+after-written (Some x) pattern zero n old e z l =
+    let same : x ≡ pattern = cc in
+    ap (λ bs. repeated x n ++ bs) (drop_of_length-le old (omega arith)) ∙ append-nil (repeated x n) ∙ ap (λ p. repeated p n) same
+after-written (Some x) pattern (suc offset) n old e z l = absurd (omega arith)
+
+-- the content of a unit on the source, while the guest runs there
+pub source-full : (s : State) → IsState s → is_switched s.phase ≡ false → (unit : ℕ) → unit < unit_count s.job → length (unit_content s.source.contents unit) ≡ size s.job.shape unit
+source-full s is off unit lt =
+    let holds : HoldsContents s.job (shown s (run s.job s.journal)) (held_contents s) = subst (λ v. HoldsContents s.job v (held_contents s)) (sym is.shows) is.contents in
+    ap length (holds.source_is unit lt off) ∙ length-content s.job s.history unit (length s.history) is.good (shown-view s is).history.legal (omega arith)
+
+abbrev pub act-bytes : State → List ℕ
+act-bytes s = repeated (written (next-op s)) (next-op s).len
+
+abbrev pub source-acted : State → Device
+source-acted s = after (WriteUnit (next-op s).unit.0 (act-bytes s)) false s.source
+
+guest-overlaid : (s : State) → IsState s → has_begin s.journal ≡ false → wait s.job (run s.job s.journal) act false ≡ None →
+    act-bytes s ≡ overlaid (next-op s).write (next-op s).offset (next-op s).len (unit_content s.source.contents (next-op s).unit.0)
+guest-overlaid s is h goes =
+    let w = is-write s is (guest-more s is goes) in
+    let e = early s is h in
+    sym (after-written (next-op s).write (written (next-op s)) (next-op s).offset (next-op s).len _ w.writes w.from_start (source-full s is e.not_switched (next-op s).unit.0 w.in_range ∙ sym w.to_end))
+
+-- the source has made as many writes as the guest
+counted-at : (writes : List ℕ) (unit u k : ℕ) → unit < length writes → number writes u ≡ k → (b : Bool) → (unit == u) ≡ b →
+    number (set writes unit (number writes unit + 1)) u ≡ (if b then 1 else 0) + k
+counted-at writes unit u k lt e true at =
+    let same = eqb-true unit u at in
+    let here : number (set writes unit (number writes unit + 1)) unit ≡ number writes unit + 1 = get_or-set_same writes unit (number writes unit + 1) 0 lt in
+    ap (number (set writes unit (number writes unit + 1))) (sym same) ∙ here ∙ omega (arith, ap (number writes) same)
+counted-at writes unit u k lt e false at =
+    let apart = eqb-false unit u at in
+    get_or-set_other writes unit u (number writes unit + 1) 0 (λ same. apart (sym same)) ∙ omega arith
+
+-- what a write leaves of the contents, by what it asks, whether the guest is at the destination, and whether it reads
+abbrev acted : State → Aim → Bool → Bool → Contents
+acted s a switched reading = record (held_contents s) {
+  source = if switched || is_join a then s.source.contents else after_operation (next-op s) s.source.contents;
+  dest = if switched then after_operation (next-op s) s.dest.contents else s.dest.contents;
+  outbox = if is_mirror a then (held_contents s).outbox ++ unit_content (after_operation (next-op s) s.source.contents) (next-op s).unit.0 ∷ [] else (held_contents s).outbox;
+  reads = if reading then part (next-op s) (unit_content (if switched then s.dest.contents else s.source.contents) (next-op s).unit.0) else [];
+}
+
+reads-not : (w : Option (List ℕ)) (bytes : List ℕ) → w ≡ Some bytes → is_none w ≡ false
+reads-not None bytes e = absurd (cc)
+reads-not (Some x) bytes e = refl
+
+guest-moved : (s : State) → IsState s → has_begin s.journal ≡ false → wait s.job (run s.job s.journal) act false ≡ None →
+    record (held_contents s) { source = set s.source.contents (next-op s).unit.0 (act-bytes s) } ≡ moves s.job (shown s (run s.job s.journal)) act (held_contents s)
+guest-moved s is h goes =
+    let e = early s is h in
+    let w = is-write s is (guest-more s is goes) in
+    ap (λ bytes. record (held_contents s) { source = set s.source.contents (next-op s).unit.0 bytes }) (guest-overlaid s is h goes)
+    ∙ ap (acted s Alone false) (sym (reads-not (next-op s).write (written (next-op s)) w.writes))
+    ∙ ap (λ b. acted s Alone b (is_none (next-op s).write)) (sym e.not_switched)
+    ∙ ap (λ a. acted s a (is_switched s.phase) (is_none (next-op s).write)) (sym (is-alone s is h (guest-more s is goes)))
+
+-- the writes made, where the guest runs at the source
+guest-made : (s : State) → IsState s → has_begin s.journal ≡ false → wait s.job (run s.job s.journal) act false ≡ None → (u : ℕ) → u < unit_count s.job →
+    number (set s.source.writes (next-op s).unit.0 (number s.source.writes (next-op s).unit.0 + 1)) u ≡ writes s.job (push s.history entry-done) u (length (push s.history entry-done))
+guest-made s is h goes u lt =
+    let e = early s is h in
+    let w = is-write s is (guest-more s is goes) in
+    let p = plain s is in
+    let made : number s.source.writes u ≡ writes s.job s.history u (length s.history) = p.source_made u lt ∙ ap (λ b. writes s.job s.history u (if b then unwrap_or s.stun 0 else length s.history)) e.not_switched in
+    let there : (next-op s).unit.0 < length s.source.writes = subst (λ n. (next-op s).unit.0 < n) (sym is.source_counts) w.in_range in
+    counted-at s.source.writes (next-op s).unit.0 u (writes s.job s.history u (length s.history)) there made ((next-op s).unit.0 == u) refl
+    ∙ ap (λ b. (if b && ((next-op s).unit.0 == u) then 1 else 0) + writes s.job s.history u (length s.history)) (sym (writes-some (next-op s).write (written (next-op s)) w.writes))
+    ∙ sym (writes-push_at s.job s.history entry-done u)
+    ∙ ap (writes s.job (push s.history entry-done) u) (sym (length-append s.history (entry-done ∷ [])))
+
+same-gap : (k m n : ℕ) → k + (m - m) ≡ k + (n - n)
+same-gap k m n = omega arith
+
+guest-by : (s : State) (j : List Entry) → IsState s → has_begin s.journal ≡ false → wait s.job (run s.job s.journal) act false ≡ None → j ≡ next s act →
+    IsState (record s { journal = j; source = source-acted s; history = push s.history entry-done })
+guest-by s j is h goes same =
+    let v = run s.job s.journal in
+    let new : State = record s { journal = j; source = source-acted s; history = push s.history entry-done } in
+    let longer : length j ≡ length s.journal + 1 = ap length same ∙ length-next s act in
+    let e = early s is h in
+    let more = guest-more s is goes in
+    let p = plain s is in
+    let reach : source_reach new ≡ length new.history = ap (λ b. if b then unwrap_or s.stun 0 else length new.history) e.not_switched in
+    let reached : source_reach s ≡ length s.history = ap (λ b. if b then unwrap_or s.stun 0 else length s.history) e.not_switched in
+    state-next s new act (guest-next s is h goes) refl same
+      (shown-effect s new act is (subst (λ w. shown new w ≡ w) (ap (λ (a : Aim). guest_by s.job (shown s v) 0 (next-op s) a) (sym (is-alone s is h more))) refl))
+      (shown-moves s new act is (guest-moved s is h goes))
+      (record {
+        good = p.good;
+        built = p.built;
+        unwritten = p.unwritten;
+        source_made = λ u lt. guest-made s is h goes u lt ∙ ap (writes s.job new.history u) (sym reach);
+        dest_made = λ u lt. p.dest_made u lt
+            ∙ ap (λ n. number s.applied u + (writes s.job s.history u (length s.history) - writes s.job s.history u n)) reached
+            ∙ same-gap (number s.applied u) (writes s.job s.history u (length s.history)) (writes s.job new.history u (length new.history))
+            ∙ ap (λ n. number s.applied u + (writes s.job new.history u (length new.history) - writes s.job new.history u n)) (sym reach);
+        source_counts = length-set s.source.writes (next-op s).unit.0 (number s.source.writes (next-op s).unit.0 + 1) ∙ p.source_counts;
+        dest_counts = p.dest_counts;
+        source_shape = p.source_shape;
+        dest_shape = p.dest_shape;
+        no_late_page = p.no_late_page;
+        next_page_within = p.next_page_within;
+        few_rounds = p.few_rounds;
+        not_begun = λ none. p.not_begun h;
+        history_room = let room = guest-room s is more in let l = length-append s.history (entry-done ∷ []) in omega arith;
+        source_plan = p.source_plan;
+        dest_plan = p.dest_plan;
+        source_calls = (omega (arith, p.source_calls), omega (arith, p.source_calls));
+        dest_calls = (omega (arith, p.dest_calls), omega (arith, p.dest_calls));
+      })
+
+pub guest-holds : (s : State) (j : List Entry) (op : UnitOp) (bytes : List ℕ) (source : Device) (history : List Ended) → IsState s → has_begin s.journal ≡ false → wait s.job (run s.job s.journal) act false ≡ None → j ≡ next s act →
+    op ≡ next-op s → bytes ≡ act-bytes s → source ≡ after (WriteUnit op.unit.0 bytes) false s.source → history ≡ push s.history entry-done → IsState (record s { journal = j; source = source; history = history })
+guest-holds s j op bytes source history is h goes same is_op is_bytes wrote_it longer =
+    let acts : source ≡ source-acted s = wrote_it ∙ ap (λ (o : UnitOp). after (WriteUnit o.unit.0 bytes) false s.source) is_op ∙ ap (λ bs. after (WriteUnit (next-op s).unit.0 bs) false s.source) is_bytes in
+    subst (λ d. IsState (record s { journal = j; source = d; history = history })) (sym acts)
+    (subst (λ es. IsState (record s { journal = j; source = source-acted s; history = es })) (sym longer) (guest-by s j is h goes same))
