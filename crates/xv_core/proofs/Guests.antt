@@ -4,7 +4,7 @@ use Rattle.std.proofs.Common.{arith, refl, ap, sym, subst, ◌∙◌, length-app
 use Rattle.std.proofs.lemmas.List.{append-nil, length-set, get_or-set_same, get_or-set_other}
 use Rattle.std.proofs.Math.ListN.{drop_of_length-le}
 use Rattle.std.proofs.lemmas.List.Sums.{sum_by-cons}
-use Rattle.std.proofs.lemmas.Bool.{eq-eqb, eqb-true, eqb-false, ne_eqb, le-ltb, le-leb, lt-leb}
+use Rattle.std.proofs.lemmas.Bool.{leb-true, leb-false, eq-eqb, eqb-true, eqb-false, ne_eqb, le-ltb, le-leb, lt-leb}
 use Rattle.xv_base.specs.Pattern.{repeated}
 use Rattle.xv_base.specs.declared.unit.DiskShape.{DiskShape}
 use Rattle.xv_model.specs.Job.{Job, UnitId, UnitOp, IsGoodJob, trace, operation, guest_count, operation_count, unit_count, size, blocks, is_page, disk_of, block_of}
@@ -21,7 +21,8 @@ use Rattle.xv_model.proofs.Layouts.{block_from}
 use Rattle.xv_model.proofs.Contents.Sizes.{length-repeated, length-content}
 use Rattle.xv_job.specs.Built.{IsBuilt, IsBlockWrite, written}
 use Rattle.xv_job.specs.BuiltEvents.{has_begin}
-use Rattle.xv_core.specs.State.{State, IsState, shown, held_contents}
+use Rattle.xv_core.specs.Seen.{Seen, view_of}
+use Rattle.xv_core.specs.State.{State, IsState, shown, seen_of, held_contents}
 use Rattle.xv_device.specs.Device.{WriteUnit}
 use Rattle.xv_device.specs.Memory.{Device, after}
 use Rattle.xv_core.proofs.Runs.{Next, next, next-done}
@@ -137,6 +138,18 @@ pub guest-free : (s : State) → IsState s → has_begin s.journal ≡ false →
 guest-free s is h more =
     let e = early s is h in
     shown-wait s act None is (waits-by _ _ _ _ _ _ (lt-leb (length (trace s.job 0)) (ended s.history 0) more) refl (not-due s.job.config.cancel (length s.history) (is_live s.phase) is.built.no_cancel) e.not_stunned (is-alone s is h more))
+
+guest-waits : (s : State) → IsState s → has_begin s.journal ≡ false → (b : Bool) → nat_le (length (trace s.job 0)) (ended s.history 0) ≡ b → wait s.job (run s.job s.journal) act false ≡ unless b TraceEnd None
+guest-waits s is h true le = guest-ends s is (leb-true (length (trace s.job 0)) (ended s.history 0) le)
+guest-waits s is h false le = guest-free s is h (leb-false (length (trace s.job 0)) (ended s.history 0) le)
+
+pub guest-wait : (s : State) (old : Seen) (n count : ℕ) → IsState s → seen_of s ≡ old → has_begin old.journal ≡ false → n ≡ ended s.history 0 → count ≡ length (trace s.job 0) →
+    wait old.job (view_of old) act false ≡ unless (nat_le count n) TraceEnd None
+guest-wait s old n count is same h is_n is_count =
+    let early_on : has_begin s.journal ≡ false = ap (λ (m : Seen). has_begin m.journal) same ∙ h in
+    subst (λ (m : Seen). wait m.job (view_of m) act false ≡ unless (nat_le count n) TraceEnd None) same
+    (guest-waits s is early_on (nat_le (length (trace s.job 0)) (ended s.history 0)) refl
+    ∙ ap (λ k. unless (nat_le k (ended s.history 0)) TraceEnd None) (sym is_count) ∙ ap (λ k. unless (nat_le count k) TraceEnd None) (sym is_n))
 
 pub guest-more : (s : State) → IsState s → wait s.job (run s.job s.journal) act false ≡ None → ended s.history 0 < length (trace s.job 0)
 guest-more s is goes = (guest_goes s.job (shown s (run s.job s.journal)) 0 false (shown-goes s act is goes)).more
