@@ -1,13 +1,13 @@
 -- A write of the guest, before the copy begins: what it leaves is a state.
-use Rattle.std.specs.Prelude.{◌≡◌, ◌≤◌, ◌<◌, ℕ, zero, suc, ◌+◌, ◌-◌, ◌||◌, ◌&&◌, ◌==◌, not, nat_lt, nat_le, is_some, is_none, unwrap_or, Bool, true, false, List, [], ◌∷◌, ◌++◌, length, map, set, take, drop, get_or, Option, None, Some, if◌then◌else◌, sum_by}
-use Rattle.std.proofs.Common.{arith, refl, ap, sym, subst, ◌∙◌, length-append}
+use Rattle.std.specs.Prelude.{◌≡◌, ◌≤◌, ◌<◌, ℕ, zero, suc, ◌+◌, ◌-◌, ◌||◌, ◌&&◌, ◌==◌, not, nat_lt, nat_le, is_some, is_none, unwrap_or, Bool, true, false, List, [], ◌∷◌, ◌++◌, length, map, set, take, drop, get_or, Option, None, Some, if◌then◌else◌, sum_by, ◌^◌, IfSome, IsSome}
+use Rattle.std.proofs.Common.{rules, arith, refl, ap, sym, subst, ◌∙◌, length-append}
 use Rattle.std.proofs.lemmas.List.{append-nil, length-set, get_or-set_same, get_or-set_other}
 use Rattle.std.proofs.Math.ListN.{drop_of_length-le}
 use Rattle.std.proofs.lemmas.List.Sums.{sum_by-cons}
 use Rattle.std.proofs.lemmas.Bool.{leb-true, leb-false, eq-eqb, eqb-true, eqb-false, ne_eqb, le-ltb, le-leb, lt-leb}
 use Rattle.xv_base.specs.Pattern.{repeated}
 use Rattle.xv_base.specs.declared.unit.DiskShape.{DiskShape}
-use Rattle.xv_model.specs.Job.{Job, UnitId, UnitOp, IsGoodJob, trace, operation, guest_count, operation_count, unit_count, size, blocks, is_page, disk_of, block_of}
+use Rattle.xv_model.specs.Job.{Job, Shape, UnitId, UnitOp, units, IsGoodJob, trace, operation, guest_count, operation_count, unit_count, size, blocks, is_page, disk_of, block_of}
 use Rattle.xv_model.specs.Guest.{Ended, ended, wrote, writes, writes_to, content, overlaid, part}
 use Rattle.xv_model.specs.View.{View, Disk, Phase, no_disk, disk, number, is_running, is_stunned, is_switched, is_live, is_behind, is_inside, is_copied, all_copied, all_copied_by}
 use Rattle.xv_model.specs.Wait.{Event, Why, Aim, Alone, Store, Join, Mirror, is_join, is_mirror, next_aim, next_operation, reaches, unless, wait, fits}
@@ -344,3 +344,42 @@ guest-holds s j op bytes source history is h goes same is_op is_bytes wrote_it l
     let acts : source ≡ source-acted s = wrote_it ∙ ap (λ (o : UnitOp). after (WriteUnit o.unit.0 bytes) false s.source) is_op ∙ ap (λ bs. after (WriteUnit (next-op s).unit.0 bs) false s.source) is_bytes in
     subst (λ d. IsState (record s { journal = j; source = d; history = history })) (sym acts)
     (subst (λ es. IsState (record s { journal = j; source = source-acted s; history = es })) (sym longer) (guest-by s j is h goes same))
+
+-- what the write of the guest asks for
+pub seen-early : (s : State) (old : Seen) → seen_of s ≡ old → has_begin old.journal ≡ false → has_begin s.journal ≡ false
+seen-early s old same h = ap (λ (m : Seen). has_begin m.journal) same ∙ h
+
+pub guest-unit : (s : State) (op : UnitOp) → IsState s → wait s.job (run s.job s.journal) act false ≡ None → op ≡ next-op s → op.unit.0 < units s.source.shape
+guest-unit s op is goes is_op =
+    subst (λ (o : UnitOp). o.unit.0 < units s.source.shape) (sym is_op)
+    (subst (λ (x : Shape). (next-op s).unit.0 < units x) (sym is.source_shape) (is-write s is (guest-more s is goes)).in_range)
+
+pub guest-whole : (s : State) (op : UnitOp) (bytes : List ℕ) → IsState s → wait s.job (run s.job s.journal) act false ≡ None → op ≡ next-op s → bytes ≡ act-bytes s → length bytes ≡ size s.source.shape op.unit.0
+guest-whole s op bytes is goes is_op is_bytes =
+    ap length is_bytes ∙ length-repeated (written (next-op s)) (next-op s).len ∙ (is-write s is (guest-more s is goes)).to_end
+    ∙ ap (λ (x : Shape). size x (next-op s).unit.0) (sym is.source_shape) ∙ ap (λ (o : UnitOp). size s.source.shape o.unit.0) (sym is_op)
+
+pub guest-few : (s : State) (op : UnitOp) → IsState s → has_begin s.journal ≡ false → wait s.job (run s.job s.journal) act false ≡ None → op ≡ next-op s → number s.source.writes op.unit.0 < 2 ^ 63
+guest-few s op is h goes is_op =
+    let e = early s is h in
+    let w = is-write s is (guest-more s is goes) in
+    let made = (plain s is).source_made (next-op s).unit.0 w.in_range ∙ ap (λ b. writes s.job s.history (next-op s).unit.0 (if b then unwrap_or s.stun 0 else length s.history)) e.not_switched in
+    let most = writes-few s.job s.history (next-op s).unit.0 (length s.history) in
+    let room = guest-room s is (guest-more s is goes) in
+    let limit = is.good.operations in
+    subst (λ (o : UnitOp). number s.source.writes o.unit.0 < 2 ^ 63) (sym is_op) (omega arith)
+
+-- the bytes that it writes
+pub guest-bytes : (s : State) (op : UnitOp) (bytes : List ℕ) → IsState s → wait s.job (run s.job s.journal) act false ≡ None → op ≡ next-op s → IfSome op.write (λ pattern. bytes ≡ repeated pattern op.len) → bytes ≡ act-bytes s
+guest-bytes s op bytes is goes is_op filled =
+    let w = is-write s is (guest-more s is goes) in
+    let at : IfSome (next-op s).write (λ pattern. bytes ≡ repeated pattern (next-op s).len) = subst (λ (o : UnitOp). IfSome o.write (λ pattern. bytes ≡ repeated pattern o.len)) is_op filled in
+    subst (λ (x : Option (List ℕ)). IfSome x (λ pattern. bytes ≡ repeated pattern (next-op s).len)) w.writes at
+
+some-is : (bytes : List ℕ) → IsSome (Some bytes)
+some-is bytes = search rules
+
+pub guest-writes : (s : State) (op : UnitOp) → IsState s → wait s.job (run s.job s.journal) act false ≡ None → op ≡ next-op s → IsSome op.write
+guest-writes s op is goes is_op =
+    let w = is-write s is (guest-more s is goes) in
+    subst (λ (o : UnitOp). IsSome o.write) (sym is_op) (subst (λ (x : Option (List ℕ)). IsSome x) (sym w.writes) (some-is (written (next-op s))))
