@@ -1,11 +1,11 @@
 -- The events of the copy: what they leave is a state.
-use Rattle.std.specs.Prelude.{◌≡◌, ◌≢◌, ◌≤◌, ◌<◌, ℕ, zero, suc, ◌+◌, ◌-◌, ◌||◌, min, nat_lt, Bool, true, false, List, [], ◌∷◌, ◌++◌, length, map, set, get_or, None}
+use Rattle.std.specs.Prelude.{◌≡◌, ◌≢◌, ◌≤◌, ◌<◌, ℕ, zero, suc, ◌+◌, ◌-◌, ◌||◌, min, nat_lt, Bool, true, false, List, [], ◌∷◌, ◌++◌, length, map, set, get_or, Option, None}
 use Rattle.std.proofs.Common.{arith, refl, ap, sym, subst, ◌∙◌, length-append}
 use Rattle.std.proofs.lemmas.List.{map-append}
 use Rattle.std.specs.Prelude.{slice_index, slice_set}
 use Rattle.xv_model.specs.Job.{Job, UnitId, unit_count, blocks, unit_of_block}
 use Rattle.xv_model.specs.View.{View, Disk, Outbox, disk, number, no_disk}
-use Rattle.xv_model.specs.Wait.{Event, wait, fits}
+use Rattle.xv_model.specs.Wait.{Event, Why, wait, fits}
 use Rattle.xv_model.specs.Effect.{Turn, effect, answer, with_disk, cursor_unit, made, made_run}
 use Rattle.xv_model.specs.Step.{Entry, run}
 use Rattle.xv_model.specs.Invariant.{IsViewOf}
@@ -29,6 +29,9 @@ shown-view s is = subst (IsViewOf s.job) (sym is.shows) is.view
 
 pub shown-goes : (s : State) (e : Event) → IsState s → wait s.job (run s.job s.journal) e false ≡ None → wait s.job (shown s (run s.job s.journal)) e false ≡ None
 shown-goes s e is goes = subst (λ v. wait s.job v e false ≡ None) (sym is.shows) goes
+
+pub shown-wait : (s : State) (e : Event) (why : Option Why) → IsState s → wait s.job (shown s (run s.job s.journal)) e false ≡ why → wait s.job (run s.job s.journal) e false ≡ why
+shown-wait s e why is same = subst (λ v. wait s.job v e false ≡ why) is.shows same
 
 -- an effect that is told of what is shown
 pub shown-effect : (s new : State) (e : Event) → IsState s →
@@ -65,7 +68,7 @@ pub nil : {X : Type 0} (xs : List X) → length xs ≡ 0 → xs ≡ []
 nil [] e = refl
 nil (x ∷ xs) e = absurd (omega arith)
 
-abbrev disk-with : ℕ → ℕ → ℕ → Disk
+abbrev pub disk-with : ℕ → ℕ → ℕ → Disk
 disk-with c r g = record { cursor = c; region = r; got = g; queue = [] }
 
 same-disk : (c r r' g g' : ℕ) → r ≡ r' → g ≡ g' → disk-with c r g ≡ disk-with c r' g'
@@ -110,6 +113,8 @@ begin-holds s j is goes same =
         unwritten = p.unwritten;
         source_made = p.source_made;
         dest_made = p.dest_made;
+        source_counts = p.source_counts;
+        dest_counts = p.dest_counts;
         source_shape = p.source_shape;
         dest_shape = p.dest_shape;
         no_late_page = p.no_late_page;
@@ -168,6 +173,8 @@ read-by s j n is goes same =
         unwritten = p.unwritten;
         source_made = p.source_made;
         dest_made = p.dest_made;
+        source_counts = p.source_counts;
+        dest_counts = p.dest_counts;
         source_shape = p.source_shape;
         dest_shape = p.dest_shape;
         no_late_page = p.no_late_page;
@@ -248,6 +255,8 @@ advance-by s j block is goes same read =
         unwritten = p.unwritten;
         source_made = p.source_made;
         dest_made = p.dest_made;
+        source_counts = p.source_counts;
+        dest_counts = p.dest_counts;
         source_shape = p.source_shape;
         dest_shape = p.dest_shape;
         no_late_page = p.no_late_page;

@@ -26,6 +26,8 @@ pub record Plain (s : State) : Type 0 where
   pub unwritten : (unit : ℕ) → unit < unit_count s.job → (is_switched s.phase || nat_lt 0 (number s.applied unit)) ≡ false → unit_content s.dest.contents unit ≡ replicate (size s.job.shape unit) 0
   pub source_made : (unit : ℕ) → unit < unit_count s.job → number s.source.writes unit ≡ writes s.job s.history unit (source_reach s)
   pub dest_made : (unit : ℕ) → unit < unit_count s.job → number s.dest.writes unit ≡ number s.applied unit + (writes s.job s.history unit (length s.history) - writes s.job s.history unit (source_reach s))
+  pub source_counts : length s.source.writes ≡ unit_count s.job
+  pub dest_counts : length s.dest.writes ≡ unit_count s.job
   pub source_shape : s.source.shape ≡ s.job.shape
   pub dest_shape : s.dest.shape ≡ s.job.shape
   pub no_late_page : is_running s.phase ≡ false → s.next_page ≡ s.job.shape.pages
@@ -46,6 +48,8 @@ plain s is = record {
   unwritten = λ unit lt h. is.unwritten unit lt (ap (λ (v : View). is_written v unit) (sym is.shows) ∙ h);
   source_made = λ unit lt. is.source_made unit lt ∙ ap (λ (v : View). source_writes s.job v unit) (sym is.shows);
   dest_made = λ unit lt. is.dest_made unit lt ∙ ap (λ (v : View). dest_writes s.job v unit) (sym is.shows);
+  source_counts = is.source_counts;
+  dest_counts = is.dest_counts;
   source_shape = is.source_shape;
   dest_shape = is.dest_shape;
   no_late_page = is.no_late_page;
@@ -79,6 +83,8 @@ state-next s new e n job journal shows contents keeps =
       unwritten = λ unit lt h. keeps.unwritten unit lt (ap (λ (v : View). is_written v unit) same ∙ h);
       source_made = λ unit lt. keeps.source_made unit lt ∙ ap (λ (v : View). source_writes new.job v unit) same;
       dest_made = λ unit lt. keeps.dest_made unit lt ∙ ap (λ (v : View). dest_writes new.job v unit) same;
+      source_counts = keeps.source_counts;
+      dest_counts = keeps.dest_counts;
       source_shape = keeps.source_shape;
       dest_shape = keeps.dest_shape;
       no_late_page = keeps.no_late_page;

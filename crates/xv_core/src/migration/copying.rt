@@ -1,6 +1,6 @@
 //! The guest's writes, and the copy of the disk.
 
-ghost use Rattle.std.specs.Prelude.{◌≡◌, ◌≤◌, ◌<◌, true, false, None, length, IfSome, IfNone};
+ghost use Rattle.std.specs.Prelude.{◌≡◌, ◌≤◌, ◌<◌, true, false, None, ◌&&◌, length};
 ghost use Rattle.xv_model.specs.Job.{blocks, unit_of_block, trace, operation};
 ghost use Rattle.xv_model.specs.View.{all_copied};
 ghost use Rattle.xv_model.specs.Wait.{wait, is_full};
@@ -14,54 +14,46 @@ use xv_job::Job;
 
 use crate::migration::Migration;
 use crate::phase::is_running;
-use crate::steps::{content_of, issue, recorded, written_by};
+use crate::steps::{content_of, issue, recorded, unless, written_by};
 
 impl Migration {
     pub(super) fn guest_waits(&self) -> Option<Why>
         requires { has_begin self.now.journal ≡ false }
         ensures { result ≡ wait self.now.job (view_of self.now) (Guest (record { 0 = 0 })) false }
     {
-        match operation(&self.job, self.history.ended(GuestId(0))) {
-            Some(_) => None,
-            None => Some(Why::TraceEnd),
-        }
+        let ended = self.history.ended(GuestId(0));
+        unless(operations(&self.job) <= ended, Why::TraceEnd, None)
     }
 
     pub(super) fn begin_waits(&self) -> Option<Why>
         ensures { result ≡ wait self.now.job (view_of self.now) (Begin 0) false }
     {
-        if !is_running(self.phase) || self.is_copied() || self.region != 0 {
-            return Some(Why::NotNow);
-        }
-        None
+        let begun = unless(self.region != 0, Why::NotNow, None);
+        let copied = unless(self.is_copied(), Why::NotNow, begun);
+        unless(!is_running(self.phase), Why::NotNow, copied)
     }
 
     pub(super) fn read_waits(&self) -> Option<Why>
         ensures { result ≡ wait self.now.job (view_of self.now) (Read 0) false }
     {
-        if !is_running(self.phase) || self.region as usize <= self.blocks.len() {
-            return Some(Why::NotNow);
-        }
-        None
+        let read = unless(self.region as usize <= self.blocks.len(), Why::NotNow, None);
+        unless(!is_running(self.phase), Why::NotNow, read)
     }
 
     pub(super) fn advance_waits(&self) -> Option<Why>
         ensures { result ≡ wait self.now.job (view_of self.now) (Advance 0) false }
     {
-        if !is_running(self.phase) || self.region == 0 || self.blocks.len() < self.region as usize {
-            return Some(Why::NotNow);
-        }
-        if self.is_full() {
-            return Some(Why::Throttled);
-        }
-        None
+        let full = unless(self.is_full(), Why::Throttled, None);
+        let unread = unless(self.blocks.len() < self.region as usize, Why::NotNow, full);
+        let none = unless(self.region == 0, Why::NotNow, unread);
+        unless(!is_running(self.phase), Why::NotNow, none)
     }
 
     /// Whether the whole disk is behind the copy.
     pub(super) fn is_copied(&self) -> bool
         ensures { result ≡ all_copied self.now.job (view_of self.now) }
     {
-        self.cursor == block_count(&self.job) && self.region == 0
+        is_both(self.cursor == block_count(&self.job), self.region == 0)
     }
 
     /// Whether the outbox has no room.
@@ -79,9 +71,7 @@ impl Migration {
         if self.journal.reserve(1).is_err() {
             return Turn::NoMemory;
         }
-        let Some(op) = operation(&self.job, self.history.ended(GuestId(0))) else {
-            unreachable!()
-        };
+        let op = operation(&self.job, self.history.ended(GuestId(0)));
         let Some(bytes) = written_by(alloc, &op) else {
             return Turn::NoMemory;
         };
@@ -164,14 +154,24 @@ fn block_unit(job: &Job, block: u32) -> UnitId
     job.layout.unit_of_block(0, block)
 }
 
-/// The guest's operation number k, from 0; none where its trace is at an end.
-fn operation(job: &Job, k: u32) -> Option<UnitOp>
-    ensures some { IfSome result (λ op. (k < length (trace job.now 0)) × (op ≡ operation job.now 0 k)) }
-    ensures none { IfNone result (length (trace job.now 0) ≤ k) }
+/// How many operations the guest has.
+fn operations(job: &Job) -> u32
+    ensures { result ≡ length (trace job.now 0) }
 {
-    let trace = &job.traces[0];
-    if trace.unit_ops() <= k {
-        return None;
-    }
-    Some(trace.unit_op(k))
+    job.traces[0].unit_ops()
+}
+
+/// The guest's operation number k, from 0.
+fn operation(job: &Job, k: u32) -> UnitOp
+    requires { k < length (trace job.now 0) }
+    ensures { result ≡ operation job.now 0 k }
+{
+    job.traces[0].unit_op(k)
+}
+
+/// Whether two conditions hold.
+fn is_both(one: bool, other: bool) -> bool
+    ensures { result ≡ (one && other) }
+{
+    one && other
 }
