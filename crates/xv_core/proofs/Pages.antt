@@ -3,6 +3,7 @@ use Rattle.std.specs.Prelude.{◌≡◌, ◌≤◌, ◌<◌, ℕ, ◌+◌, ◌-�
 use Rattle.std.proofs.Common.{refl, ap, sym, subst, ◌∙◌, arith, ⊎_elim}
 use Rattle.std.proofs.lemmas.Bool.{cases_Bool, ne_eqb, cases_lt}
 use Rattle.std.proofs.lemmas.List.{map_push}
+use Rattle.xv_base.proofs.Within.{good_within}
 use Rattle.xv_model.specs.Job.{Job, size, unit_count}
 use Rattle.xv_model.specs.View.{View, Outbox, UnitHead, Phase, number, member, members, least, is_running, is_live, is_empty_set, all_copied}
 use Rattle.xv_model.specs.Wait.{Event, wait}
@@ -157,6 +158,7 @@ pub record PageFits (s : State) : Type 0 where
   pub in_units : s.next_page < unit_count s.job
   pub in_issued : s.next_page < length s.issued
   pub few : number s.issued s.next_page ≤ 2
+  pub next_fits : s.next_page + 1 < 4294967296
 
 pub page-fits : (s : State) → IsState s → wait s.job (run s.job s.journal) Page false ≡ None → PageFits s
 page-fits s is goes =
@@ -169,11 +171,13 @@ page-fits s is goes =
     let number_is : number s.issued s.next_page ≡ number v.outbox.issued s.next_page = ap (λ x. number x s.next_page) same in
     let rounds : s.rounds ≡ v.rounds = ap (λ (x : View). x.rounds) is.shows in
     let one = is.few_rounds in
+    let limit = (good_within s.job.shape is.good.machine).few_units in
     record {
       in_pages = lt;
       in_units = wide;
       in_issued = let l = is.view.lists.issued in omega arith;
       few = subst (λ k. k ≤ 2) (sym number_is) (bounded (number v.outbox.issued s.next_page) v.rounds (member v.to_send s.next_page) (is_running v.phase) sent (omega arith));
+      next_fits = omega (arith, limit);
     }
 
 abbrev stunned_as : View → ℕ → List Bool → List Bool → View
@@ -217,3 +221,14 @@ stun-state s j t at is goes here done entered =
             ∙ ap (λ y. stunned_as (shown s v) (length s.history) y (pages_from s.next_page n)) dirty
             ∙ ap (λ y. stunned_as (shown s v) (length s.history) (replicate (length (replicate n (s.rounds == 0))) false) y) to_send))
         (λ other. facts.0) is.next_page_within is.few_rounds
+
+-- the message of a page, as it was made
+pub page-made : (s : State) (outbox room : List Message) (read : List ℕ) (version at : ℕ) → room ≡ s.outbox → at ≡ length s.history →
+    outbox ≡ room ++ record { head = record { unit = record { 0 = s.next_page }; version = version; at = at }; content = read } ∷ [] →
+    outbox ≡ s.outbox ++ record { head = record { unit = record { 0 = s.next_page }; version = version; at = length s.history }; content = read } ∷ []
+page-made s outbox room read version at same here made =
+    made ∙ ap (λ x. x ++ record { head = record { unit = record { 0 = s.next_page }; version = version; at = at }; content = read } ∷ []) same
+    ∙ ap (λ n. s.outbox ++ record { head = record { unit = record { 0 = s.next_page }; version = version; at = n }; content = read } ∷ []) here
+
+pub page-few : (n : ℕ) → n ≤ 2 → n + 1 < 4294967296
+page-few n le = omega arith
