@@ -1,17 +1,18 @@
 -- One entry more in a journal, and what holds of the view and of the contents then.
-use Rattle.std.specs.Prelude.{◌≡◌, ◌&&◌, Bool, true, false, List, [], ◌∷◌, ◌++◌, Option, None}
+use Rattle.std.specs.Prelude.{◌≡◌, ◌==◌, ◌&&◌, Bool, true, false, List, [], ◌∷◌, ◌++◌, Option, None}
 use Rattle.std.proofs.Common.{refl, ap, sym, subst, ◌∙◌}
-use Rattle.std.proofs.lemmas.Bool.{and_parts}
+use Rattle.std.proofs.lemmas.Bool.{and_parts, eq-eqb}
 use Rattle.xv_model.specs.Job.{Job, IsGoodJob}
 use Rattle.xv_model.specs.View.{View, first_view}
 use Rattle.xv_model.specs.Wait.{Event, Why, wait, fits}
-use Rattle.xv_model.specs.Effect.{Turn, effect, answer}
+use Rattle.xv_model.specs.Effect.{Turn, Note, effect, answer}
 use Rattle.xv_model.specs.Step.{Entry, view_by, turn_by, step, turn, after, run, is_flagged, same_turn, is_run_from, is_run, breaks}
 use Rattle.xv_model.specs.Invariant.{IsViewOf}
 use Rattle.xv_model.specs.Contents.{Contents, HoldsContents, moves, contents_by, step_contents}
 use Rattle.xv_model.proofs.Kept.{step-holds}
 use Rattle.xv_model.proofs.Contents.Steps.{contents-step}
 use Rattle.xv_core.specs.State.{State, IsState, held_contents}
+use Rattle.xv_base.specs.declared.answer.Turn.TheVariants.{Done}
 
 -- the view after one entry more
 after-push : (job : Job) (v : View) (j : List Entry) (e : Entry) → after job v (j ++ e ∷ []) ≡ step job (after job v j) e.event (is_flagged e.turn)
@@ -69,3 +70,10 @@ next-holds s e is fit goes off same =
       contents = subst (λ w. HoldsContents s.job w (moves s.job v e (held_contents s))) (sym by_flag)
           (subst (HoldsContents s.job (step s.job v e false)) (contents-goes_on s.job v e (held_contents s) goes) (contents-step s.job v (held_contents s) e false is.good fit is.view is.contents));
     }
+
+-- and so where it is done
+pub same-done : (n : Note) → same_turn (Done n) (Done n) ≡ true
+same-done n = both (n.a == n.a) (n.b == n.b) (eq-eqb n.a n.a refl) (eq-eqb n.b n.b refl)
+
+pub next-done : (s : State) (e : Event) (n : Note) → IsState s → fits s.job e ≡ true → wait s.job (run s.job s.journal) e false ≡ None → answer s.job (run s.job s.journal) e ≡ Done n → Next s e
+next-done s e n is fit goes told = next-holds s e is fit goes (ap is_flagged told) (ap (λ t. same_turn t t) told ∙ same-done n)

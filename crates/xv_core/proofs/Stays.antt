@@ -120,6 +120,8 @@ stays s j e t source phase stun next_page rounds outbox issued stream held credi
       source_made = λ unit lt.
           ap (λ ws. number ws unit) like.writes ∙ is.source_made unit lt ∙ sym (same_source s.job v w unit same) ∙ ap (λ (x : View). source_writes s.job x unit) (sym ran);
       dest_made = λ unit lt. is.dest_made unit lt ∙ sym (same_dest s.job v w unit same) ∙ ap (λ (x : View). dest_writes s.job x unit) (sym ran);
+      source_counts = ap (λ (x : List ℕ). length x) like.writes ∙ is.source_counts;
+      dest_counts = is.dest_counts;
       source_shape = like.shape ∙ is.source_shape;
       dest_shape = is.dest_shape;
       no_late_page = late;

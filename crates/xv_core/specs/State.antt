@@ -87,6 +87,8 @@ pub record IsState (s : State) : Type 0 where
   pub unwritten : (unit : ℕ) → unit < unit_count s.job → is_written (run s.job s.journal) unit ≡ false → unit_content s.dest.contents unit ≡ replicate (size s.job.shape unit) 0
   pub source_made : (unit : ℕ) → unit < unit_count s.job → number s.source.writes unit ≡ source_writes s.job (run s.job s.journal) unit
   pub dest_made : (unit : ℕ) → unit < unit_count s.job → number s.dest.writes unit ≡ dest_writes s.job (run s.job s.journal) unit
+  pub source_counts : length s.source.writes ≡ unit_count s.job
+  pub dest_counts : length s.dest.writes ≡ unit_count s.job
   pub source_shape : s.source.shape ≡ s.job.shape
   pub dest_shape : s.dest.shape ≡ s.job.shape
   pub no_late_page : is_running s.phase ≡ false → s.next_page ≡ s.job.shape.pages

@@ -17,6 +17,13 @@ use xv_device::MemDevice;
 
 use crate::message::{Content, Message};
 
+/// Waits for what a condition names where it holds, and else as a later one says.
+pub fn unless(holds: bool, why: Why, later: Option<Why>) -> Option<Why>
+    ensures { result ≡ unless holds why later }
+{
+    if holds { Some(why) } else { later }
+}
+
 /// Enters an event that is done into the journal, which has room for it.
 pub fn recorded(journal: &mut Vec<Entry>, event: Event, a: u32, b: u32) -> Turn
     requires { vec_len journal.old < vec_capacity journal.old }
@@ -58,8 +65,8 @@ pub fn content_of(alloc: Global, device: &mut MemDevice, unit: UnitId) -> Option
     ensures content { IfSome result (λ found. found ≡ content device.old.contents unit.0) }
     ensures unread { IfNone result (device.new ≡ device.old) }
 {
-    let size = device.layout().size(unit);
-    let mut bytes = Vec::from_elem(alloc, 0, size as usize).ok()?;
+    let size = device.content(unit).len();
+    let mut bytes = Vec::from_elem(alloc, 0, size).ok()?;
     let Ok(()) = device.read(unit, 0, &mut bytes) else {
         unreachable!()
     };
