@@ -151,5 +151,5 @@ pub step-made : (s : State) (old new : Seen) (e : Event) (t : Turn) (n : Note) �
     answer s.job (run s.job s.journal) e ≡ Done n → new.journal ≡ s.journal ++ record { event = e; turn = t } ∷ [] → IsStep old e t new
 step-made s old new e t n same done job goes told journal =
     is_step old new e t n done (job ∙ ap (λ (m : Seen). m.job) same) goes
-        (subst (λ (m : Seen). answer m.job (view_of m) e ≡ Done n) same told)
-        (journal ∙ ap (λ (m : Seen). m.journal ++ record { event = e; turn = t } ∷ []) same)
+    (subst (λ (m : Seen). answer m.job (view_of m) e ≡ Done n) same told)
+    (journal ∙ ap (λ (m : Seen). m.journal ++ record { event = e; turn = t } ∷ []) same)

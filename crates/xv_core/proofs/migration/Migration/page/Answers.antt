@@ -29,16 +29,18 @@ overflow_add-self c =
 
 pub invariant_of-self-2 : goal.invariant_of-self-2
 invariant_of-self-2 c =
-    let goes = goes-from (state_of c.self.inside) c.args.self.now Page c.self.view_is c.requires in
-    (page-state (state_of c.self.inside) _ c.recorded.result c.content_of.new.device _ _ c.in-Some.content c.issue-version.result c.self.invariant.0 goes
-        c.in-Some.ensures.read c.in-Some.ensures.content c.issue-version.ensures.version c.issue-version.ensures.issued
-        (page-made (state_of c.self.inside) _ c.reserve-else-is_err.new.self.items c.in-Some.content c.issue-version.result c.len-at.result c.reserve-else-is_err.ensures.items c.len-at.ensures.exactly c.issue-version.ensures.made)
-        c.recorded.ensures.answer
-        (c.recorded.ensures.entry ∙ ap (λ x. x ++ record { event = Page; turn = c.recorded.result } ∷ []) c.reserve.ensures.items), c.self.invariant.1)
+    let goes = goes-from (state_of c.self.inside) c.args.self.now Page c.self.view_is c.requires in (
+      page-state (state_of c.self.inside) _ c.recorded.result c.content_of.new.device _ _ c.in-Some.content c.issue-version.result c.self.invariant.0 goes
+          c.in-Some.ensures.read c.in-Some.ensures.content c.issue-version.ensures.version c.issue-version.ensures.issued
+          (page-made (state_of c.self.inside) _ c.reserve-else-is_err.new.self.items c.in-Some.content c.issue-version.result c.len-at.result c.reserve-else-is_err.ensures.items c.len-at.ensures.exactly c.issue-version.ensures.made)
+          c.recorded.ensures.answer
+          (c.recorded.ensures.entry ∙ ap (λ x. x ++ record { event = Page; turn = c.recorded.result } ∷ []) c.reserve.ensures.items),
+      c.self.invariant.1,
+    )
 
 pub returns : goal.returns
 returns c =
     let goes = goes-from (state_of c.self.inside) c.args.self.now Page c.self.view_is c.requires in
     step-made (state_of c.self.inside) c.args.self.now _ Page c.recorded.result _ c.self.view_is c.recorded.ensures.answer refl c.requires
-        (page-answer (state_of c.self.inside) c.issue-version.result c.self.invariant.0 goes c.issue-version.ensures.version)
-        (c.recorded.ensures.entry ∙ ap (λ x. x ++ record { event = Page; turn = c.recorded.result } ∷ []) c.reserve.ensures.items)
+    (page-answer (state_of c.self.inside) c.issue-version.result c.self.invariant.0 goes c.issue-version.ensures.version)
+    (c.recorded.ensures.entry ∙ ap (λ x. x ++ record { event = Page; turn = c.recorded.result } ∷ []) c.reserve.ensures.items)
