@@ -88,7 +88,7 @@ advance-waits s is =
     let l = lies s is in
     subst (λ v. wait s.job v (Advance 0) false ≡ advance-tests (is_running s.phase) (nat_eq s.region 0) (nat_lt (length s.blocks) s.region) (is_full s.job v)) is.shows
     (ap (unless (not (is_running s.phase)) NotNow) (split-tests (nat_eq s.region 0) (nat_lt (length s.blocks) s.region) (nat_le s.job.config.outbox (length (heads s.outbox))) (nat_lt (s.job.config.outbox - length (heads s.outbox)) s.region)
-    (λ some. no-room s.job.config.outbox (length (heads s.outbox)) s.region l.at_most_one some)))
+        (λ some. no-room s.job.config.outbox (length (heads s.outbox)) s.region l.at_most_one some)))
 
 pub advance-wait : (s : State) (old : Seen) (n : ℕ) → IsState s → seen_of s ≡ old → n ≡ length s.blocks → wait old.job (view_of old) (Advance 0) false ≡ advance-tests (is_running s.phase) (nat_eq s.region 0) (nat_lt n s.region) (is_full old.job (view_of old))
 advance-wait s old n is same count =

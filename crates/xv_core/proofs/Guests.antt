@@ -72,10 +72,10 @@ early s is h =
     let quiet = (shown-view s is).quiet in
     let some = is.good.some_blocks 0 (omega arith) in
     let copied = λ (on : (is_stunned s.phase || is_switched s.phase) ≡ true).
-    let all : all_copied_by (map (λ d. d.blocks) s.job.shape.disks) (record { cursor = s.cursor; region = s.region; got = length s.blocks; queue = [] } ∷ []) ≡ true = quiet.all_copied on in
-    not_copied-by s.job.shape.disks (length s.blocks) some one
-    (subst (λ r. all_copied_by (map (λ d. d.blocks) s.job.shape.disks) (record { cursor = 0; region = r; got = length s.blocks; queue = [] } ∷ []) ≡ true) at.1
-    (subst (λ c. all_copied_by (map (λ d. d.blocks) s.job.shape.disks) (record { cursor = c; region = s.region; got = length s.blocks; queue = [] } ∷ []) ≡ true) at.0 all)) in
+        let all : all_copied_by (map (λ d. d.blocks) s.job.shape.disks) (record { cursor = s.cursor; region = s.region; got = length s.blocks; queue = [] } ∷ []) ≡ true = quiet.all_copied on in
+        not_copied-by s.job.shape.disks (length s.blocks) some one
+        (subst (λ r. all_copied_by (map (λ d. d.blocks) s.job.shape.disks) (record { cursor = 0; region = r; got = length s.blocks; queue = [] } ∷ []) ≡ true) at.1
+        (subst (λ c. all_copied_by (map (λ d. d.blocks) s.job.shape.disks) (record { cursor = c; region = s.region; got = length s.blocks; queue = [] } ∷ []) ≡ true) at.0 all)) in
     let off = either-off (is_stunned s.phase) (is_switched s.phase) copied in
     record { cursor = at.0; region = at.1; not_stunned = off.0; not_switched = off.1 }
 
@@ -151,8 +151,8 @@ guest-answer s is h goes =
     let more = guest-more s is goes in
     let w = is-write s is more in
     shown-answer s act _ is
-    (ap (λ (a : Aim). guest_answer (next-op s) a) (is-alone s is h more)
-    ∙ ap (λ b. Done (record { a = if b then 0 else (next-op s).len; b = 0 })) (writes-some (next-op s).write (written (next-op s)) w.writes))
+      (ap (λ (a : Aim). guest_answer (next-op s) a) (is-alone s is h more)
+      ∙ ap (λ b. Done (record { a = if b then 0 else (next-op s).len; b = 0 })) (writes-some (next-op s).write (written (next-op s)) w.writes))
 
 pub guest-next : (s : State) → IsState s → has_begin s.journal ≡ false → wait s.job (run s.job s.journal) act false ≡ None → Next s act
 guest-next s is h goes =
@@ -194,9 +194,9 @@ pub guest-room : (s : State) → IsState s → ended s.history 0 < length (trace
 guest-room s is more =
     let legal = (shown-view s is).history.legal in
     let all = only-guest s.history (λ g above.
-    let few : ended s.history g ≤ length (trace s.job g) = legal g in
-    let none : length (trace s.job g) ≡ 0 = no-trace s.job.traces g is.built.one_guest above in
-    omega arith) in
+        let few : ended s.history g ≤ length (trace s.job g) = legal g in
+        let none : length (trace s.job g) ≡ 0 = no-trace s.job.traces g is.built.one_guest above in
+        omega arith) in
     let count : operation_count s.job ≡ length (trace s.job 0) = sum-of-one s.job.traces is.built.one_guest in
     omega arith
 
@@ -299,31 +299,31 @@ guest-by s j is h goes same =
     let reach : source_reach new ≡ length new.history = ap (λ b. if b then unwrap_or s.stun 0 else length new.history) e.not_switched in
     let reached : source_reach s ≡ length s.history = ap (λ b. if b then unwrap_or s.stun 0 else length s.history) e.not_switched in
     state-next s new act (guest-next s is h goes) refl same
-    (shown-effect s new act is (subst (λ w. shown new w ≡ w) (ap (λ (a : Aim). guest_by s.job (shown s v) 0 (next-op s) a) (sym (is-alone s is h more))) refl))
-    (shown-moves s new act is (guest-moved s is h goes))
-    (record {
-      good = p.good;
-      built = p.built;
-      unwritten = p.unwritten;
-      source_made = λ u lt. guest-made s is h goes u lt ∙ ap (writes s.job new.history u) (sym reach);
-      dest_made = λ u lt. p.dest_made u lt
-          ∙ ap (λ n. number s.applied u + (writes s.job s.history u (length s.history) - writes s.job s.history u n)) reached
-          ∙ same-gap (number s.applied u) (writes s.job s.history u (length s.history)) (writes s.job new.history u (length new.history))
-          ∙ ap (λ n. number s.applied u + (writes s.job new.history u (length new.history) - writes s.job new.history u n)) (sym reach);
-      source_counts = length-set s.source.writes (next-op s).unit.0 (number s.source.writes (next-op s).unit.0 + 1) ∙ p.source_counts;
-      dest_counts = p.dest_counts;
-      source_shape = p.source_shape;
-      dest_shape = p.dest_shape;
-      no_late_page = p.no_late_page;
-      next_page_within = p.next_page_within;
-      few_rounds = p.few_rounds;
-      not_begun = λ none. p.not_begun h;
-      history_room = let room = guest-room s is more in let l = length-append s.history (entry-done ∷ []) in omega arith;
-      source_plan = p.source_plan;
-      dest_plan = p.dest_plan;
-      source_calls = (omega (arith, p.source_calls), omega (arith, p.source_calls));
-      dest_calls = (omega (arith, p.dest_calls), omega (arith, p.dest_calls));
-    })
+      (shown-effect s new act is (subst (λ w. shown new w ≡ w) (ap (λ (a : Aim). guest_by s.job (shown s v) 0 (next-op s) a) (sym (is-alone s is h more))) refl))
+      (shown-moves s new act is (guest-moved s is h goes))
+      (record {
+        good = p.good;
+        built = p.built;
+        unwritten = p.unwritten;
+        source_made = λ u lt. guest-made s is h goes u lt ∙ ap (writes s.job new.history u) (sym reach);
+        dest_made = λ u lt. p.dest_made u lt
+            ∙ ap (λ n. number s.applied u + (writes s.job s.history u (length s.history) - writes s.job s.history u n)) reached
+            ∙ same-gap (number s.applied u) (writes s.job s.history u (length s.history)) (writes s.job new.history u (length new.history))
+            ∙ ap (λ n. number s.applied u + (writes s.job new.history u (length new.history) - writes s.job new.history u n)) (sym reach);
+        source_counts = length-set s.source.writes (next-op s).unit.0 (number s.source.writes (next-op s).unit.0 + 1) ∙ p.source_counts;
+        dest_counts = p.dest_counts;
+        source_shape = p.source_shape;
+        dest_shape = p.dest_shape;
+        no_late_page = p.no_late_page;
+        next_page_within = p.next_page_within;
+        few_rounds = p.few_rounds;
+        not_begun = λ none. p.not_begun h;
+        history_room = let room = guest-room s is more in let l = length-append s.history (entry-done ∷ []) in omega arith;
+        source_plan = p.source_plan;
+        dest_plan = p.dest_plan;
+        source_calls = (omega (arith, p.source_calls), omega (arith, p.source_calls));
+        dest_calls = (omega (arith, p.dest_calls), omega (arith, p.dest_calls));
+      })
 
 pub guest-holds : (s : State) (j : List Entry) (op : UnitOp) (bytes : List ℕ) (source : Device) (history : List Ended) → IsState s → has_begin s.journal ≡ false → wait s.job (run s.job s.journal) act false ≡ None → j ≡ next s act →
     op ≡ next-op s → bytes ≡ act-bytes s → source ≡ after (WriteUnit op.unit.0 bytes) false s.source → history ≡ push s.history entry-done → IsState (record s { journal = j; source = source; history = history })

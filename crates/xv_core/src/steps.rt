@@ -10,11 +10,12 @@ ghost use Rattle.xv_model.specs.View.{first_next};
 ghost use Rattle.xv_model.specs.Wait.{unless};
 ghost use Rattle.xv_core.specs.State.{heads, no_content};
 
-use crate::message::{Content, Message};
 use std::alloc::Global;
 use std::collections::VecDeque;
 use xv_base::{Entry, Event, Note, Turn, UnitHead, UnitId, UnitOp, Why};
 use xv_device::MemDevice;
+
+use crate::message::{Content, Message};
 
 /// Waits for what a condition names where it holds, and else as a later one says.
 pub fn unless(holds: bool, why: Why, later: Option<Why>) -> Option<Why>
@@ -112,10 +113,7 @@ pub fn first_next(held: &VecDeque<Message>, applied: &Vec<u32>) -> usize
     ensures { result ≡ first_next applied.now.items (heads held.now.items) }
 {
     for (place, message) in held.iter().enumerate() {
-        let version = applied
-            .get(message.head.unit.0 as usize)
-            .copied()
-            .unwrap_or(0);
+        let version = applied.get(message.head.unit.0 as usize).copied().unwrap_or(0);
         if u64::from(message.head.version) == u64::from(version) + 1 {
             return place;
         }
