@@ -46,7 +46,7 @@ empty-pages n =
 pub empty-is : (k n : ℕ) → k ≤ n → is_empty_set (pages_from k n) ≡ (k == n)
 empty-is k n le =
     ⊎_elim (λ lt. some-pages k n lt ∙ sym (ne_eqb k n (λ e. omega arith)))
-        (λ ge. let e : k ≡ n = omega arith in ap (λ i. is_empty_set (pages_from i n)) e ∙ empty-pages n ∙ sym (eq-eqb k n e)) (cases_lt k n)
+    (λ ge. let e : k ≡ n = omega arith in ap (λ i. is_empty_set (pages_from i n)) e ∙ empty-pages n ∙ sym (eq-eqb k n e)) (cases_lt k n)
 
 pub all-pages : (n : ℕ) → pages_from 0 n ≡ replicate n true
 all-pages n = let e : n - 0 ≡ n = omega arith in ap (λ m. replicate m true) e

@@ -37,7 +37,7 @@ round-waits s is =
     let d = not (is_empty_set v.dirty) in
     let phase : is_running v.phase ≡ is_running s.phase = ap (λ (x : View). is_running x.phase) (sym is.shows) in
     let rounds : nat_lt v.rounds s.job.config.rounds ≡ (s.rounds == 0) =
-        ap (λ k. nat_lt v.rounds k) is.built.one_round ∙ ap (λ (x : View). nat_lt x.rounds 1) (sym is.shows) ∙ none_begun s.rounds in
+    ap (λ k. nat_lt v.rounds k) is.built.one_round ∙ ap (λ (x : View). nat_lt x.rounds 1) (sym is.shows) ∙ none_begun s.rounds in
     let form : (s.job.format == 2) ≡ false = ap (λ f. f == 2) is.built.format.0 in
     ap (λ r. unless (not r) NotNow (unless (not (is_empty_set v.to_send && (if all_copied s.job v then nat_lt v.rounds s.job.config.rounds else ((s.job.format == 2) && d)))) NotNow None)) phase
     ∙ ap (λ z. unless (not (is_running s.phase)) NotNow (unless (not (is_empty_set v.to_send && (if all_copied s.job v then z else ((s.job.format == 2) && d)))) NotNow None)) rounds
@@ -71,7 +71,7 @@ stun-waits s is =
     let queues : queues_empty v.disks ≡ true = ap (λ (x : View). queues_empty x.disks) (sym is.shows) in
     let some : nat_lt 0 v.rounds ≡ not (s.rounds == 0) = ap (λ (x : View). nat_lt 0 x.rounds) (sym is.shows) ∙ some_begun s.rounds in
     let last : nat_le s.job.config.rounds v.rounds ≡ not (s.rounds == 0) =
-        ap (λ k. nat_le k v.rounds) is.built.one_round ∙ ap (λ (x : View). nat_le 1 x.rounds) (sym is.shows) ∙ last_begun s.rounds in
+    ap (λ k. nat_le k v.rounds) is.built.one_round ∙ ap (λ (x : View). nat_le 1 x.rounds) (sym is.shows) ∙ last_begun s.rounds in
     ap (λ r. unless (not r) NotNow (unless (is_before s.job.config.cancel (length v.history)) CancelDue (unless (not (c && queues_empty v.disks && e && nat_lt 0 v.rounds && (m || nat_le s.job.config.rounds v.rounds))) NotNow None))) phase
     ∙ ap (λ b. unless (not (is_running s.phase)) NotNow (unless b CancelDue (unless (not (c && queues_empty v.disks && e && nat_lt 0 v.rounds && (m || nat_le s.job.config.rounds v.rounds))) NotNow None))) before
     ∙ ap (λ q. unless (not (is_running s.phase)) NotNow (unless false CancelDue (unless (not (c && q && e && nat_lt 0 v.rounds && (m || nat_le s.job.config.rounds v.rounds))) NotNow None))) queues
@@ -101,7 +101,7 @@ pub page-wait : (s : State) (old : Seen) → IsState s → seen_of s ≡ old →
     wait old.job (view_of old) Page false ≡ three (is_live s.phase) (is_empty_set (view_of old).to_send) NothingThere (is_full old.job (view_of old)) Throttled
 page-wait s old is same =
     subst (λ (m : Seen). wait m.job (view_of m) Page false ≡ three (is_live s.phase) (is_empty_set (view_of m).to_send) NothingThere (is_full m.job (view_of m)) Throttled) same
-        (ap (λ b. three b (is_empty_set (run s.job s.journal).to_send) NothingThere (is_full s.job (run s.job s.journal)) Throttled) (same_phase s is))
+    (ap (λ b. three b (is_empty_set (run s.job s.journal).to_send) NothingThere (is_full s.job (run s.job s.journal)) Throttled) (same_phase s is))
 
 none_there : {X : Type 0} (xs : List X) (n : ℕ) → n ≡ length xs → (n == 0) ≡ is_empty xs
 none_there [] n e = ap (λ k. k == 0) e
@@ -118,9 +118,9 @@ send-wait s old n is same long =
     let none : is_empty v.outbox.messages ≡ (n == 0) = ap (λ (x : View). is_empty x.outbox.messages) (sym is.shows) ∙ mapped (λ (m : Message). m.head) s.outbox ∙ sym (none_there s.outbox n long) in
     let credit : (v.credit == 0) ≡ (s.credit == 0) = ap (λ (x : View). x.credit == 0) (sym is.shows) in
     subst (λ (m : Seen). wait m.job (view_of m) (Send 0) false ≡ three (is_live s.phase) (n == 0) NothingThere (s.credit == 0) NoCredit) same
-        (ap (λ b. three b (is_empty v.outbox.messages) NothingThere (v.credit == 0) NoCredit) (same_phase s is)
-        ∙ ap (λ b. three (is_live s.phase) b NothingThere (v.credit == 0) NoCredit) none
-        ∙ ap (λ b. three (is_live s.phase) (n == 0) NothingThere b NoCredit) credit)
+    (ap (λ b. three b (is_empty v.outbox.messages) NothingThere (v.credit == 0) NoCredit) (same_phase s is)
+    ∙ ap (λ b. three (is_live s.phase) b NothingThere (v.credit == 0) NoCredit) none
+    ∙ ap (λ b. three (is_live s.phase) (n == 0) NothingThere b NoCredit) credit)
 
 pub deliver-wait : (s : State) (old : Seen) (n : ℕ) → IsState s → seen_of s ≡ old → n ≡ length s.stream →
     wait old.job (view_of old) (Deliver 0) false ≡ unless (not (is_live s.phase)) NotNow (unless (n == 0) NothingThere None)
@@ -128,8 +128,8 @@ deliver-wait s old n is same long =
     let v = run s.job s.journal in
     let none : is_empty (stream v 0) ≡ (n == 0) = ap (λ (x : View). is_empty (stream x 0)) (sym is.shows) ∙ mapped (λ (m : Message). m.head ∷ []) s.stream ∙ sym (none_there s.stream n long) in
     subst (λ (m : Seen). wait m.job (view_of m) (Deliver 0) false ≡ unless (not (is_live s.phase)) NotNow (unless (n == 0) NothingThere None)) same
-        (ap (λ b. unless (not b) NotNow (unless (is_empty (stream v 0)) NothingThere None)) (same_phase s is)
-        ∙ ap (λ b. unless (not (is_live s.phase)) NotNow (unless b NothingThere None)) none)
+    (ap (λ b. unless (not b) NotNow (unless (is_empty (stream v 0)) NothingThere None)) (same_phase s is)
+    ∙ ap (λ b. unless (not (is_live s.phase)) NotNow (unless b NothingThere None)) none)
 
 -- whether every page of the round was sent off
 pub sent-test : (s : State) (old : Seen) (pages : ℕ) → IsState s → seen_of s ≡ old → pages ≡ s.job.shape.pages → nat_eq s.next_page pages ≡ is_empty_set (view_of old).to_send

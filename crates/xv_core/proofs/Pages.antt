@@ -3,6 +3,7 @@ use Rattle.std.specs.Prelude.{◌≡◌, ◌≤◌, ◌<◌, ℕ, ◌+◌, ◌-�
 use Rattle.std.proofs.Common.{refl, ap, sym, subst, ◌∙◌, arith, ⊎_elim}
 use Rattle.std.proofs.lemmas.Bool.{cases_Bool, ne_eqb, cases_lt}
 use Rattle.std.proofs.lemmas.List.{map_push}
+use Rattle.xv_base.proofs.Within.{good_within}
 use Rattle.xv_model.specs.Job.{Job, size, unit_count}
 use Rattle.xv_model.specs.View.{View, Outbox, UnitHead, Phase, number, member, members, least, is_running, is_live, is_empty_set, all_copied}
 use Rattle.xv_model.specs.Wait.{Event, wait}
@@ -64,23 +65,23 @@ round-state s j t count is goes pages done entered =
     let before : (s.rounds == 0) ≡ true = zero_is s.rounds none in
     let one : 1 ≡ s.rounds + 1 = omega arith in
     stays s j Round t s.source s.phase s.stun 0 1 s.outbox s.issued s.stream s.held s.credit is
-        (next-done s Round _ is refl goes told) refl (told ∙ sym done) entered (like-itself s.source)
-        (record { history = refl; applied = refl; switched = refl; to = refl })
-        refl
-        (subst (λ (x : View). shown (record s { journal = j; next_page = 0; rounds = 1 }) (effect s.job x Round) ≡ effect s.job x Round) is.shows
-            (same_pages (shown s v) (replicate n false) (replicate (length (replicate n (s.rounds == 0))) false) (pages_from 0 n) (replicate n (s.rounds == 0)) 1 (s.rounds + 1)
-                (sym (no_more n (s.rounds == 0))) (all-pages n ∙ ap (λ b. replicate n b) (sym before)) one))
-        (λ off. let on : is_running s.phase ≡ true = ap (λ (x : View). is_running x.phase) is.shows ∙ running in absurd (cc)) (omega arith) (omega arith)
+    (next-done s Round _ is refl goes told) refl (told ∙ sym done) entered (like-itself s.source)
+    (record { history = refl; applied = refl; switched = refl; to = refl })
+    refl
+    (subst (λ (x : View). shown (record s { journal = j; next_page = 0; rounds = 1 }) (effect s.job x Round) ≡ effect s.job x Round) is.shows
+    (same_pages (shown s v) (replicate n false) (replicate (length (replicate n (s.rounds == 0))) false) (pages_from 0 n) (replicate n (s.rounds == 0)) 1 (s.rounds + 1)
+    (sym (no_more n (s.rounds == 0))) (all-pages n ∙ ap (λ b. replicate n b) (sym before)) one))
+    (λ off. let on : is_running s.phase ≡ true = ap (λ (x : View). is_running x.phase) is.shows ∙ running in absurd (cc)) (omega arith) (omega arith)
 
 -- a page that is to be sent is below the number of pages
 pub page-in : (s : State) → IsState s → is_empty_set (run s.job s.journal).to_send ≡ false → s.next_page < s.job.shape.pages
 page-in s is some =
     let here : is_empty_set (pages_from s.next_page s.job.shape.pages) ≡ false = ap (λ (x : View). is_empty_set x.to_send) is.shows ∙ some in
     ⊎_elim (λ lt. lt) (λ ge.
-        let within = is.next_page_within in
-        let all : s.next_page ≡ s.job.shape.pages = omega arith in
-        let empty : is_empty_set (pages_from s.next_page s.job.shape.pages) ≡ true = ap (λ k. is_empty_set (pages_from k s.job.shape.pages)) all ∙ empty-pages s.job.shape.pages in
-        absurd (cc)) (cases_lt s.next_page s.job.shape.pages)
+    let within = is.next_page_within in
+    let all : s.next_page ≡ s.job.shape.pages = omega arith in
+    let empty : is_empty_set (pages_from s.next_page s.job.shape.pages) ≡ true = ap (λ k. is_empty_set (pages_from k s.job.shape.pages)) all ∙ empty-pages s.job.shape.pages in
+    absurd (cc)) (cases_lt s.next_page s.job.shape.pages)
 
 pub page-least : (s : State) → IsState s → wait s.job (run s.job s.journal) Page false ≡ None → least (run s.job s.journal).to_send ≡ s.next_page
 page-least s is goes =
@@ -131,21 +132,21 @@ page-state s j t source outbox issued read version is goes taken bytes next coun
     let old_contents : s.source.contents ≡ source.contents = ap (λ (d : Device). d.contents) (sym taken) in
     let out : contents s.outbox ++ read ∷ [] ≡ contents outbox = sym (map_push (λ (m : Message). m.content) s.outbox _) ∙ ap contents (sym made) in
     let moved_out : contents s.outbox ++ get_or s.source.contents (least v.to_send) [] ∷ [] ≡ contents outbox =
-        ap (λ k. contents s.outbox ++ get_or s.source.contents k [] ∷ []) (page-least s is goes) ∙ ap (λ b. contents s.outbox ++ b ∷ []) (sym bytes) ∙ out in
+    ap (λ k. contents s.outbox ++ get_or s.source.contents k [] ∷ []) (page-least s is goes) ∙ ap (λ b. contents s.outbox ++ b ∷ []) (sym bytes) ∙ out in
     let head_at : ℕ → UnitHead = λ k. record { unit = record { 0 = p }; version = k; at = length s.history } in
     let messages : heads outbox ≡ heads s.outbox ++ head_at (number s.issued p + 1) ∷ [] =
-        ap heads made ∙ map_push (λ (m : Message). m.head) s.outbox _ ∙ ap (λ k. heads s.outbox ++ head_at k ∷ []) next in
+    ap heads made ∙ map_push (λ (m : Message). m.head) s.outbox _ ∙ ap (λ k. heads s.outbox ++ head_at k ∷ []) next in
     let at_place : effect s.job (shown s v) Page ≡ page_effect (shown s v) p = ap (λ k. page_effect (shown s v) k) (least-pages p n lt) in
     let base : shown new (page_effect (shown s v) p) ≡ page_effect (shown s v) p =
-        same_made (shown s v) (first_after (shown s v) p (length s.history)) (pages_from (p + 1) n) (set (pages_from p n) p false) (heads outbox) _ issued _
-            (sym (set-pages p n lt)) messages (counted ∙ ap (λ k. set s.issued p k) next) in
+    same_made (shown s v) (first_after (shown s v) p (length s.history)) (pages_from (p + 1) n) (set (pages_from p n) p false) (heads outbox) _ issued _
+    (sym (set-pages p n lt)) messages (counted ∙ ap (λ k. set s.issued p k) next) in
     stays s j Page t source s.phase s.stun (s.next_page + 1) s.rounds outbox issued s.stream s.held s.credit is
-        (next-done s Page _ is refl goes told) refl (told ∙ sym done) entered
-        (subst (λ (d : Device). IsLike s.source d) (sym taken) (record { shape = refl; writes = refl; plan = refl; reads = omega arith; write_calls = refl }))
-        (record { history = refl; applied = refl; switched = refl; to = refl })
-        (ap (λ x. record (held_contents s) { outbox = x }) moved_out ∙ ap (λ x. record (held_contents s) { outbox = contents outbox; source = x }) old_contents)
-        (subst (λ (x : View). shown new (effect s.job x Page) ≡ effect s.job x Page) is.shows (subst (λ (x : View). shown new x ≡ x) (sym at_place) base))
-        (λ off. let late = is.no_late_page off in absurd (omega arith)) (omega arith) is.few_rounds
+    (next-done s Page _ is refl goes told) refl (told ∙ sym done) entered
+    (subst (λ (d : Device). IsLike s.source d) (sym taken) (record { shape = refl; writes = refl; plan = refl; reads = omega arith; write_calls = refl }))
+    (record { history = refl; applied = refl; switched = refl; to = refl })
+    (ap (λ x. record (held_contents s) { outbox = x }) moved_out ∙ ap (λ x. record (held_contents s) { outbox = contents outbox; source = x }) old_contents)
+    (subst (λ (x : View). shown new (effect s.job x Page) ≡ effect s.job x Page) is.shows (subst (λ (x : View). shown new x ≡ x) (sym at_place) base))
+    (λ off. let late = is.no_late_page off in absurd (omega arith)) (omega arith) is.few_rounds
 
 bounded : (a r : ℕ) (b c : Bool) → a + (if b then 1 else 0) ≤ r + (if c then 0 else 1) → r ≤ 1 → a ≤ 2
 bounded a r b true h l = omega arith
@@ -157,6 +158,7 @@ pub record PageFits (s : State) : Type 0 where
   pub in_units : s.next_page < unit_count s.job
   pub in_issued : s.next_page < length s.issued
   pub few : number s.issued s.next_page ≤ 2
+  pub next_fits : s.next_page + 1 < 4294967296
 
 pub page-fits : (s : State) → IsState s → wait s.job (run s.job s.journal) Page false ≡ None → PageFits s
 page-fits s is goes =
@@ -169,11 +171,13 @@ page-fits s is goes =
     let number_is : number s.issued s.next_page ≡ number v.outbox.issued s.next_page = ap (λ x. number x s.next_page) same in
     let rounds : s.rounds ≡ v.rounds = ap (λ (x : View). x.rounds) is.shows in
     let one = is.few_rounds in
+    let limit = (good_within s.job.shape is.good.machine).few_units in
     record {
       in_pages = lt;
       in_units = wide;
       in_issued = let l = is.view.lists.issued in omega arith;
       few = subst (λ k. k ≤ 2) (sym number_is) (bounded (number v.outbox.issued s.next_page) v.rounds (member v.to_send s.next_page) (is_running v.phase) sent (omega arith));
+      next_fits = omega (arith, limit);
     }
 
 abbrev stunned_as : View → ℕ → List Bool → List Bool → View
@@ -185,9 +189,10 @@ stun-facts s is goes =
     let g = stun_goes s.job v false goes in
     let none : is_empty_set (pages_from s.next_page s.job.shape.pages) ≡ true = ap (λ (x : View). is_empty_set x.to_send) is.shows ∙ g.none_to_send in
     let some = g.some_round in
-    let rounds : s.rounds ≡ v.rounds = ap (λ (x : View). x.rounds) is.shows in
-    (⊎_elim (λ lt. let more = some-pages s.next_page s.job.shape.pages lt in absurd (cc)) (λ ge. let within = is.next_page_within in omega arith) (cases_lt s.next_page s.job.shape.pages),
-     ne_eqb s.rounds 0 (λ zero. omega arith))
+    let rounds : s.rounds ≡ v.rounds = ap (λ (x : View). x.rounds) is.shows in (
+      ⊎_elim (λ lt. let more = some-pages s.next_page s.job.shape.pages lt in absurd (cc)) (λ ge. let within = is.next_page_within in omega arith) (cases_lt s.next_page s.job.shape.pages),
+      ne_eqb s.rounds 0 (λ zero. omega arith),
+    )
 
 none_dirty : (s : State) → IsState s → (s.rounds == 0) ≡ false → (run s.job s.journal).dirty ≡ replicate s.job.shape.pages false
 none_dirty s is some = ap (λ (x : View). x.dirty) (sym is.shows) ∙ ap (λ b. replicate s.job.shape.pages b) some
@@ -209,11 +214,22 @@ stun-state s j t at is goes here done entered =
     let dirty : replicate n (s.rounds == 0) ≡ replicate (length (replicate n (s.rounds == 0))) false = ap (λ b. replicate n b) facts.1 ∙ sym (no_more n (s.rounds == 0)) in
     let to_send : pages_from s.next_page n ≡ replicate n (s.rounds == 0) = ap (λ k. pages_from k n) facts.0 ∙ no-pages n ∙ ap (λ b. replicate n b) (sym facts.1) in
     stays s j Stun t s.source Stunned (Some at) s.next_page s.rounds s.outbox s.issued s.stream s.held s.credit is
-        (next-done s Stun _ is refl goes told) refl (told ∙ sym done) entered (like-itself s.source)
-        (record { history = refl; applied = refl; switched = sym off; to = ap (λ b. if b then unwrap_or v.stun 0 else length v.history) (sym off) })
-        refl
-        (subst (λ (x : View). shown new (effect s.job x Stun) ≡ effect s.job x Stun) is.shows
-            (ap (λ k. stunned_as (shown s v) k (replicate n (s.rounds == 0)) (pages_from s.next_page n)) here
-            ∙ ap (λ y. stunned_as (shown s v) (length s.history) y (pages_from s.next_page n)) dirty
-            ∙ ap (λ y. stunned_as (shown s v) (length s.history) (replicate (length (replicate n (s.rounds == 0))) false) y) to_send))
-        (λ other. facts.0) is.next_page_within is.few_rounds
+    (next-done s Stun _ is refl goes told) refl (told ∙ sym done) entered (like-itself s.source)
+    (record { history = refl; applied = refl; switched = sym off; to = ap (λ b. if b then unwrap_or v.stun 0 else length v.history) (sym off) })
+    refl
+    (subst (λ (x : View). shown new (effect s.job x Stun) ≡ effect s.job x Stun) is.shows
+    (ap (λ k. stunned_as (shown s v) k (replicate n (s.rounds == 0)) (pages_from s.next_page n)) here
+    ∙ ap (λ y. stunned_as (shown s v) (length s.history) y (pages_from s.next_page n)) dirty
+    ∙ ap (λ y. stunned_as (shown s v) (length s.history) (replicate (length (replicate n (s.rounds == 0))) false) y) to_send))
+    (λ other. facts.0) is.next_page_within is.few_rounds
+
+-- the message of a page, as it was made
+pub page-made : (s : State) (outbox room : List Message) (read : List ℕ) (version at : ℕ) → room ≡ s.outbox → at ≡ length s.history →
+    outbox ≡ room ++ record { head = record { unit = record { 0 = s.next_page }; version = version; at = at }; content = read } ∷ [] →
+    outbox ≡ s.outbox ++ record { head = record { unit = record { 0 = s.next_page }; version = version; at = length s.history }; content = read } ∷ []
+page-made s outbox room read version at same here made =
+    made ∙ ap (λ x. x ++ record { head = record { unit = record { 0 = s.next_page }; version = version; at = at }; content = read } ∷ []) same
+    ∙ ap (λ n. s.outbox ++ record { head = record { unit = record { 0 = s.next_page }; version = version; at = n }; content = read } ∷ []) here
+
+pub page-few : (n : ℕ) → n ≤ 2 → n + 1 < 4294967296
+page-few n le = omega arith

@@ -120,6 +120,8 @@ stays s j e t source phase stun next_page rounds outbox issued stream held credi
       source_made = λ unit lt.
           ap (λ ws. number ws unit) like.writes ∙ is.source_made unit lt ∙ sym (same_source s.job v w unit same) ∙ ap (λ (x : View). source_writes s.job x unit) (sym ran);
       dest_made = λ unit lt. is.dest_made unit lt ∙ sym (same_dest s.job v w unit same) ∙ ap (λ (x : View). dest_writes s.job x unit) (sym ran);
+      source_counts = ap (λ (x : List ℕ). length x) like.writes ∙ is.source_counts;
+      dest_counts = is.dest_counts;
       source_shape = like.shape ∙ is.source_shape;
       dest_shape = is.dest_shape;
       no_late_page = late;
@@ -149,5 +151,5 @@ pub step-made : (s : State) (old new : Seen) (e : Event) (t : Turn) (n : Note) �
     answer s.job (run s.job s.journal) e ≡ Done n → new.journal ≡ s.journal ++ record { event = e; turn = t } ∷ [] → IsStep old e t new
 step-made s old new e t n same done job goes told journal =
     is_step old new e t n done (job ∙ ap (λ (m : Seen). m.job) same) goes
-        (subst (λ (m : Seen). answer m.job (view_of m) e ≡ Done n) same told)
-        (journal ∙ ap (λ (m : Seen). m.journal ++ record { event = e; turn = t } ∷ []) same)
+    (subst (λ (m : Seen). answer m.job (view_of m) e ≡ Done n) same told)
+    (journal ∙ ap (λ (m : Seen). m.journal ++ record { event = e; turn = t } ∷ []) same)

@@ -73,14 +73,14 @@ send-answer s head is goes here =
     let v = run s.job s.journal in
     let some = send-some s is goes in
     one_told s.job (take (batch s.job v) v.outbox.messages) head is.built.format.0
-        (ap (λ n. take n v.outbox.messages) (one_goes s v is) ∙ ap (λ (x : View). take 1 x.outbox.messages) (sym is.shows) ∙ first_head s.outbox some.0 ∙ ap (λ h. h ∷ []) (sym here))
+    (ap (λ n. take n v.outbox.messages) (one_goes s v is) ∙ ap (λ (x : View). take 1 x.outbox.messages) (sym is.shows) ∙ first_head s.outbox some.0 ∙ ap (λ h. h ∷ []) (sym here))
 
 pub deliver-answer : (s : State) (head : UnitHead) → IsState s → wait s.job (run s.job s.journal) (Deliver 0) false ≡ None → head ≡ (get_or s.stream 0 no_content).head →
     answer s.job (run s.job s.journal) (Deliver 0) ≡ Done (record { a = head.unit.0; b = head.version })
 deliver-answer s head is goes here =
     let v = run s.job s.journal in
     one_told s.job (front_group v 0) head is.built.format.0
-        (ap (λ (x : View). front_group x 0) (sym is.shows) ∙ first_head_group s.stream (deliver-some s is goes) ∙ ap (λ h. h ∷ []) (sym here))
+    (ap (λ (x : View). front_group x 0) (sym is.shows) ∙ first_head_group s.stream (deliver-some s is goes) ∙ ap (λ h. h ∷ []) (sym here))
 
 -- what a sending of n messages changes
 abbrev sent_as : View → List UnitHead → List (List (List UnitHead)) → ℕ → View
@@ -107,27 +107,27 @@ send-state s j t head outbox onto credit is goes here left come less done entere
     let fit : fits s.job (Send 0) ≡ true = ap (λ n. fits (record s.job { config = record s.job.config { streams = n } }) (Send 0)) is.built.one_stream in
     let c = held_contents s in
     let out : drop (batch s.job v) (contents s.outbox) ≡ contents outbox =
-        ap (λ n. drop n (contents s.outbox)) (one_goes s v is) ∙ drop-map (λ (m : Message). m.content) 1 s.outbox ∙ ap contents (sym left) in
+    ap (λ n. drop n (contents s.outbox)) (one_goes s v is) ∙ drop-map (λ (m : Message). m.content) 1 s.outbox ∙ ap contents (sym left) in
     let on : content_groups s.stream ++ take (batch s.job v) (contents s.outbox) ∷ [] ≡ content_groups onto =
-        ap (λ n. content_groups s.stream ++ take n (contents s.outbox) ∷ []) (one_goes s v is)
-        ∙ ap (λ g. content_groups s.stream ++ g ∷ []) (first_content s.outbox some.0)
-        ∙ sym (map_push (λ (m : Message). m.content ∷ []) s.stream (get_or s.outbox 0 no_content))
-        ∙ ap content_groups (sym come) in
+    ap (λ n. content_groups s.stream ++ take n (contents s.outbox) ∷ []) (one_goes s v is)
+    ∙ ap (λ g. content_groups s.stream ++ g ∷ []) (first_content s.outbox some.0)
+    ∙ sym (map_push (λ (m : Message). m.content ∷ []) s.stream (get_or s.outbox 0 no_content))
+    ∙ ap content_groups (sym come) in
     let heads_out : heads outbox ≡ drop 1 (heads s.outbox) = ap heads left ∙ sym (drop-map (λ (m : Message). m.head) 1 s.outbox) in
     let heads_on : head_groups onto ≡ head_groups s.stream ++ take 1 (heads s.outbox) ∷ [] =
-        ap head_groups come ∙ map_push (λ (m : Message). m.head ∷ []) s.stream (get_or s.outbox 0 no_content)
-        ∙ ap (λ g. head_groups s.stream ++ g ∷ []) (sym (first_head s.outbox some.0)) in
+    ap head_groups come ∙ map_push (λ (m : Message). m.head ∷ []) s.stream (get_or s.outbox 0 no_content)
+    ∙ ap (λ g. head_groups s.stream ++ g ∷ []) (sym (first_head s.outbox some.0)) in
     let base : shown new (sent_of (shown s v) 1) ≡ sent_of (shown s v) 1 =
-        same_sent (shown s v) (heads outbox) (drop 1 (heads s.outbox)) (head_groups onto ∷ []) ((head_groups s.stream ++ take 1 (heads s.outbox) ∷ []) ∷ []) credit (s.credit - 1)
-            heads_out (ap (λ g. g ∷ []) heads_on) less in
+    same_sent (shown s v) (heads outbox) (drop 1 (heads s.outbox)) (head_groups onto ∷ []) ((head_groups s.stream ++ take 1 (heads s.outbox) ∷ []) ∷ []) credit (s.credit - 1)
+    heads_out (ap (λ g. g ∷ []) heads_on) less in
     stays s j (Send 0) t s.source s.phase s.stun s.next_page s.rounds outbox s.issued onto s.held credit is
-        (next-done s (Send 0) _ is fit goes told) refl (told ∙ sym done) entered (like-itself s.source)
-        (record { history = refl; applied = refl; switched = refl; to = refl })
-        (ap (λ x. sent_contents c x ((content_groups s.stream ++ take (batch s.job v) (contents s.outbox) ∷ []) ∷ [])) out
-            ∙ ap (λ g. sent_contents c (contents outbox) (g ∷ [])) on)
-        (subst (λ (x : View). shown new (effect s.job x (Send 0)) ≡ effect s.job x (Send 0)) is.shows
-            (subst (λ n. shown new (sent_of (shown s v) n) ≡ sent_of (shown s v) n) (sym (one_goes s (shown s v) is)) base))
-        is.no_late_page is.next_page_within is.few_rounds
+    (next-done s (Send 0) _ is fit goes told) refl (told ∙ sym done) entered (like-itself s.source)
+    (record { history = refl; applied = refl; switched = refl; to = refl })
+    (ap (λ x. sent_contents c x ((content_groups s.stream ++ take (batch s.job v) (contents s.outbox) ∷ []) ∷ [])) out
+    ∙ ap (λ g. sent_contents c (contents outbox) (g ∷ [])) on)
+    (subst (λ (x : View). shown new (effect s.job x (Send 0)) ≡ effect s.job x (Send 0)) is.shows
+    (subst (λ n. shown new (sent_of (shown s v) n) ≡ sent_of (shown s v) n) (sym (one_goes s (shown s v) is)) base))
+    is.no_late_page is.next_page_within is.few_rounds
 
 -- what a delivery changes
 abbrev delivered_as : View → List (List (List UnitHead)) → List UnitHead → View
@@ -149,16 +149,16 @@ deliver-state s j t head rest held is goes here left come done entered =
     let c = held_contents s in
     let out : drop 1 (content_groups s.stream) ≡ content_groups rest = drop-map (λ (m : Message). m.content ∷ []) 1 s.stream ∙ ap content_groups (sym left) in
     let on : contents s.held ++ get_or (content_groups s.stream) 0 [] ≡ contents held =
-        ap (λ g. contents s.held ++ g) (first_content_group s.stream some)
-        ∙ sym (map_push (λ (m : Message). m.content) s.held (get_or s.stream 0 no_content)) ∙ ap contents (sym come) in
+    ap (λ g. contents s.held ++ g) (first_content_group s.stream some)
+    ∙ sym (map_push (λ (m : Message). m.content) s.held (get_or s.stream 0 no_content)) ∙ ap contents (sym come) in
     let heads_out : head_groups rest ≡ drop 1 (head_groups s.stream) = ap head_groups left ∙ sym (drop-map (λ (m : Message). m.head ∷ []) 1 s.stream) in
     let heads_on : heads held ≡ heads s.held ++ get_or (head_groups s.stream) 0 [] =
-        ap heads come ∙ map_push (λ (m : Message). m.head) s.held (get_or s.stream 0 no_content) ∙ ap (λ g. heads s.held ++ g) (sym (first_head_group s.stream some)) in
+    ap heads come ∙ map_push (λ (m : Message). m.head) s.held (get_or s.stream 0 no_content) ∙ ap (λ g. heads s.held ++ g) (sym (first_head_group s.stream some)) in
     stays s j (Deliver 0) t s.source s.phase s.stun s.next_page s.rounds s.outbox s.issued rest held s.credit is
-        (next-done s (Deliver 0) _ is fit goes told) refl (told ∙ sym done) entered (like-itself s.source)
-        (record { history = refl; applied = refl; switched = refl; to = refl })
-        (ap (λ g. delivered_contents c (g ∷ []) (contents s.held ++ get_or (content_groups s.stream) 0 [])) out
-            ∙ ap (λ h. delivered_contents c (content_groups rest ∷ []) h) on)
-        (subst (λ (x : View). shown new (effect s.job x (Deliver 0)) ≡ effect s.job x (Deliver 0)) is.shows
-            (ap (λ g. delivered_as (shown s v) (g ∷ []) (heads held)) heads_out ∙ ap (λ h. delivered_as (shown s v) (drop 1 (head_groups s.stream) ∷ []) h) heads_on))
-        is.no_late_page is.next_page_within is.few_rounds
+    (next-done s (Deliver 0) _ is fit goes told) refl (told ∙ sym done) entered (like-itself s.source)
+    (record { history = refl; applied = refl; switched = refl; to = refl })
+    (ap (λ g. delivered_contents c (g ∷ []) (contents s.held ++ get_or (content_groups s.stream) 0 [])) out
+    ∙ ap (λ h. delivered_contents c (content_groups rest ∷ []) h) on)
+    (subst (λ (x : View). shown new (effect s.job x (Deliver 0)) ≡ effect s.job x (Deliver 0)) is.shows
+    (ap (λ g. delivered_as (shown s v) (g ∷ []) (heads held)) heads_out ∙ ap (λ h. delivered_as (shown s v) (drop 1 (head_groups s.stream) ∷ []) h) heads_on))
+    is.no_late_page is.next_page_within is.few_rounds

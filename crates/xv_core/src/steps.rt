@@ -37,13 +37,6 @@ pub fn recorded(journal: &mut Vec<Entry>, event: Event, a: u32, b: u32) -> Turn
     turn
 }
 
-/// Waits for what a condition names where it holds, and else as a later one says.
-pub fn unless(holds: bool, why: Why, later: Option<Why>) -> Option<Why>
-    ensures { result ≡ unless holds why later }
-{
-    if holds { Some(why) } else { later }
-}
-
 /// The bytes that a write of a whole unit leaves there; none for want of memory.
 pub fn written_by(alloc: Global, op: &UnitOp) -> Option<Vec<u8>>
     requires { IsSome op.now.write }

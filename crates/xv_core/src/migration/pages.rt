@@ -7,13 +7,12 @@ ghost use Rattle.xv_job.specs.BuiltEvents.{has_begin};
 ghost use Rattle.xv_core.specs.Seen.{view_of, IsStep};
 ghost use Rattle.xv_base.specs.declared.event.Event.TheVariants.{Round, Page, Stun};
 
-use std::alloc::Global;
-use xv_base::{Event, Phase, Turn, UnitId, Why};
-use xv_job::Job;
-
 use crate::migration::Migration;
 use crate::phase::{is_live, is_running};
 use crate::steps::{content_of, issue, recorded, unless};
+use std::alloc::Global;
+use xv_base::{Event, Phase, Turn, UnitId, Why};
+use xv_job::Job;
 
 impl Migration {
     pub(super) fn round_waits(&self) -> Option<Why>

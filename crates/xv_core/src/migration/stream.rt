@@ -7,12 +7,11 @@ ghost use Rattle.xv_job.specs.BuiltEvents.{has_begin};
 ghost use Rattle.xv_core.specs.Seen.{view_of, IsStep};
 ghost use Rattle.xv_base.specs.declared.event.Event.TheVariants.{Send, Deliver};
 
-use std::alloc::Global;
-use xv_base::{Event, Turn, Why};
-
 use crate::migration::Migration;
 use crate::phase::is_live;
 use crate::steps::{moved, recorded, unless};
+use std::alloc::Global;
+use xv_base::{Event, Turn, Why};
 
 impl Migration {
     pub(super) fn send_waits(&self) -> Option<Why>
@@ -50,6 +49,11 @@ impl Migration {
             return Turn::NoMemory;
         }
         let head = moved(&mut self.stream, &mut self.held);
-        recorded(&mut self.journal, Event::Deliver(0), head.unit.0, head.version)
+        recorded(
+            &mut self.journal,
+            Event::Deliver(0),
+            head.unit.0,
+            head.version,
+        )
     }
 }

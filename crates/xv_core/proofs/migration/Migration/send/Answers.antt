@@ -17,14 +17,16 @@ overflow_sub-self c =
 
 pub invariant_of-self-2 : goal.invariant_of-self-2
 invariant_of-self-2 c =
-    let goes = goes-from (state_of c.self.inside) c.args.self.now (Send 0) c.self.view_is c.requires in
-    (send-state (state_of c.self.inside) _ c.recorded.result c.moved-head.result _ _ _ c.self.invariant.0 goes c.moved-head.ensures.head c.moved-head.ensures.left
-        (c.moved-head.ensures.come ∙ ap (λ x. x ++ get_or c.self.inside.outbox.items 0 no_content ∷ []) c.reserve-else-is_err.ensures.items) refl c.recorded.ensures.answer
-        (c.recorded.ensures.entry ∙ ap (λ x. x ++ record { event = Send 0; turn = c.recorded.result } ∷ []) c.reserve.ensures.items), c.self.invariant.1)
+    let goes = goes-from (state_of c.self.inside) c.args.self.now (Send 0) c.self.view_is c.requires in (
+      send-state (state_of c.self.inside) _ c.recorded.result c.moved-head.result _ _ _ c.self.invariant.0 goes c.moved-head.ensures.head c.moved-head.ensures.left
+          (c.moved-head.ensures.come ∙ ap (λ x. x ++ get_or c.self.inside.outbox.items 0 no_content ∷ []) c.reserve-else-is_err.ensures.items) refl c.recorded.ensures.answer
+          (c.recorded.ensures.entry ∙ ap (λ x. x ++ record { event = Send 0; turn = c.recorded.result } ∷ []) c.reserve.ensures.items),
+      c.self.invariant.1,
+    )
 
 pub returns : goal.returns
 returns c =
     let goes = goes-from (state_of c.self.inside) c.args.self.now (Send 0) c.self.view_is c.requires in
     step-made (state_of c.self.inside) c.args.self.now _ (Send 0) c.recorded.result _ c.self.view_is c.recorded.ensures.answer refl c.requires
-        (send-answer (state_of c.self.inside) c.moved-head.result c.self.invariant.0 goes c.moved-head.ensures.head)
-        (c.recorded.ensures.entry ∙ ap (λ x. x ++ record { event = Send 0; turn = c.recorded.result } ∷ []) c.reserve.ensures.items)
+    (send-answer (state_of c.self.inside) c.moved-head.result c.self.invariant.0 goes c.moved-head.ensures.head)
+    (c.recorded.ensures.entry ∙ ap (λ x. x ++ record { event = Send 0; turn = c.recorded.result } ∷ []) c.reserve.ensures.items)
