@@ -29,11 +29,21 @@ impl Parts {
         ensures applied { IfSome result (λ parts. parts.applied.items ≡ replicate (unit_count job.now) 0) }
     {
         let units = job.layout.units() as usize;
-        let history = History::new(alloc, job.operations()).ok()?;
-        let source = MemDevice::new(alloc, &job.layout, &job.init, no_faults(alloc)).ok()?;
-        let dest = MemDevice::new(alloc, &job.layout, &[], no_faults(alloc)).ok()?;
-        let issued = Vec::from_elem(alloc, 0, units).ok()?;
-        let applied = Vec::from_elem(alloc, 0, units).ok()?;
+        let Ok(history) = History::new(alloc, job.operations()) else {
+            return None;
+        };
+        let Ok(source) = MemDevice::new(alloc, &job.layout, &job.init, no_faults(alloc)) else {
+            return None;
+        };
+        let Ok(dest) = MemDevice::new(alloc, &job.layout, &[], no_faults(alloc)) else {
+            return None;
+        };
+        let Ok(issued) = Vec::from_elem(alloc, 0, units) else {
+            return None;
+        };
+        let Ok(applied) = Vec::from_elem(alloc, 0, units) else {
+            return None;
+        };
         Some(Parts {
             history,
             source,
