@@ -1,6 +1,7 @@
 -- The destination's writes, their acknowledgement and the switchover keep what a state keeps.
 use Rattle.std.specs.Prelude.{◌≡◌, ◌≤◌, ◌<◌, ℕ, zero, suc, ◌+◌, ◌-◌, ◌==◌, ◌&&◌, ◌||◌, nat_lt, nat_le, not, is_some, Bool, true, false, List, [], ◌∷◌, ◌++◌, length, map, replicate, remove, set, drop, get_or, sum, Option, Some, None, unwrap_or, if◌then◌else◌}
 use Rattle.std.proofs.Common.{refl, ap, sym, subst, ◌∙◌, arith, inl, inr, length-append}
+use Rattle.std.proofs.Math.ListN.{length-set}
 use Rattle.std.proofs.lemmas.Bool.{and_parts, and_from, eq-eqb, or_parts, cases_eq, ltb-true, ltb-false}
 use Rattle.std.proofs.lemmas.List.{get_or-set_same, get_or-set_other, length-map, get_or-map}
 use Rattle.std.proofs.lemmas.List.Sums.{get_or-le-sum_by}
@@ -148,6 +149,8 @@ ack-keeps s i goes =
       unwritten = h.unwritten;
       source_made = h.source_made;
       dest_made = h.dest_made;
+      source_counts = i.source_counts;
+      dest_counts = i.dest_counts;
       source_shape = i.source_shape;
       dest_shape = i.dest_shape;
       no_late_page = i.no_late_page;
@@ -193,6 +196,8 @@ credit-keeps s i goes =
       unwritten = h.unwritten;
       source_made = h.source_made;
       dest_made = h.dest_made;
+      source_counts = i.source_counts;
+      dest_counts = i.dest_counts;
       source_shape = i.source_shape;
       dest_shape = i.dest_shape;
       no_late_page = i.no_late_page;
@@ -275,6 +280,8 @@ switch-keeps s i goes =
       unwritten = h.unwritten;
       source_made = h.source_made;
       dest_made = h.dest_made;
+      source_counts = i.source_counts;
+      dest_counts = i.dest_counts;
       source_shape = i.source_shape;
       dest_shape = i.dest_shape;
       no_late_page = λ off. i.no_late_page (subst (λ (w : View). is_running w.phase ≡ false) (sym i.shows) (stunned_not_running _ g.stunned));
@@ -433,6 +440,8 @@ apply-keeps s i goes long =
       unwritten = h.unwritten;
       source_made = h.source_made;
       dest_made = h.dest_made;
+      source_counts = i.source_counts;
+      dest_counts = length-set s.dest.writes head.unit.0 (number s.dest.writes head.unit.0 + 1) ∙ long;
       source_shape = i.source_shape;
       dest_shape = i.dest_shape;
       no_late_page = i.no_late_page;

@@ -1,17 +1,16 @@
-use Rattle.std.proofs.Common.{rules, ◌≡◌, ◌≤◌, ℕ, true, false, [], length, Option, None, IfOk, IfErr, vec_len, ◌+◌, ◌-◌, ◌*◌, ◌<◌, ◌/◌, ◌%◌, Bool, nat_eq, nat_lt, List, ◌∷◌, ◌++◌, slice_index_or, slice_set, bit_and, bit_or, Fits, w8, w32, w64, Bor, MutBor}
-use Rattle.xv_model.specs.Job.{Job as JobRecord}
-use Rattle.xv_model.specs.Job.{IsGoodJob}
-use Rattle.xv_model.specs.Wait.{wait}
-use Rattle.xv_model.specs.Report.{totals as totals_of}
-use Rattle.xv_job.specs.BuiltEvents.{is_built_event, is_guest, has_begin}
-use Rattle.xv_core.specs.Seen.{Seen, view_of, IsStep, IsKept}
-use Rattle.xv_base.specs.declared.event.Event.TheVariants.{Guest, Begin, Read, Advance, Round, Page, Send, Deliver, Apply, Ack, Credit, Stun, Switch}
+use Rattle.std.proofs.Common.{◌≡◌, sym, subst, ◌∙◌}
+use Rattle.std.specs.Prelude.{false, None}
+use Rattle.xv_model.specs.Wait.{Event, wait}
+use Rattle.xv_core.specs.Seen.{view_of, IsStep}
+use Rattle.xv_core.proofs.GuestEvents.{guest-is}
 use Rattle.xv_core.proofs.migration.Migration.step.Goals as goal
 
--- src/migration.rt:127:32
 pub guest-requires-clause-goes_on : goal.guest-requires-clause-goes_on
-guest-requires-clause-goes_on c = ?
+guest-requires-clause-goes_on c =
+    subst (λ (e : Event). wait c.args.self.now.job (view_of c.args.self.now) e false ≡ None)
+      (guest-is c.args.event c.in-Guest.field-0 c.in-Guest.is c.requires.built) (sym c.waits.ensures ∙ c.in_default.is)
 
--- src/migration.rt:118:5
 pub returns-in-Guest : goal.returns-in-Guest
-returns-in-Guest c = ?
+returns-in-Guest c =
+    subst (λ (e : Event). IsStep c.args.self.now e c.guest.result c.guest.new.self)
+      (sym (guest-is c.args.event c.in-Guest.field-0 c.in-Guest.is c.requires.built)) c.guest.ensures
