@@ -1,17 +1,17 @@
 -- What the events of the copy wait for, told of the fields.
-use Rattle.std.specs.Prelude.{◌≡◌, ◌≤◌, ◌<◌, ℕ, zero, suc, ◌+◌, ◌-◌, ◌==◌, nat_eq, nat_lt, nat_le, ◌&&◌, ◌||◌, not, Bool, true, false, List, [], ◌∷◌, length, map, Option, Some, None}
+use Rattle.std.specs.Prelude.{◌≡◌, ◌≤◌, ◌<◌, ℕ, zero, suc, ◌-◌, nat_eq, nat_lt, nat_le, ◌&&◌, ◌||◌, not, Bool, true, false, List, [], ◌∷◌, length, map, Option, None}
 use Rattle.std.proofs.Common.{arith, refl, ap, sym, subst, ◌∙◌}
 use Rattle.std.proofs.lemmas.Bool.{lt-ltb, le-ltb, leb-true, leb-false}
 use Rattle.std.proofs.lemmas.List.{length-map}
 use Rattle.xv_base.specs.declared.unit.DiskShape.{DiskShape}
-use Rattle.xv_model.specs.Job.{Job, blocks}
+use Rattle.xv_model.specs.Job.{blocks}
 use Rattle.xv_model.specs.View.{View, Disk, is_running, is_copied, all_copied, all_copied_by}
-use Rattle.xv_model.specs.Wait.{Event, Why, wait, unless, is_full, room}
+use Rattle.xv_model.specs.Wait.{Why, wait, unless, is_full}
 use Rattle.xv_model.specs.Step.{run}
 use Rattle.xv_core.specs.Seen.{Seen, view_of}
-use Rattle.xv_core.specs.State.{State, IsState, shown, seen_of, heads}
+use Rattle.xv_core.specs.State.{State, IsState, seen_of, heads}
 use Rattle.xv_core.specs.declared.message.Message.{Message}
-use Rattle.xv_core.proofs.Copying.{Lies, lies, shown-view, disk-with}
+use Rattle.xv_core.proofs.Copying.{lies, disk-with}
 use Rattle.xv_base.specs.declared.event.Event.TheVariants.{Begin, Read, Advance}
 use Rattle.xv_base.specs.declared.answer.Why.TheVariants.{NotNow, Throttled}
 
@@ -88,7 +88,7 @@ advance-waits s is =
     let l = lies s is in
     subst (λ v. wait s.job v (Advance 0) false ≡ advance-tests (is_running s.phase) (nat_eq s.region 0) (nat_lt (length s.blocks) s.region) (is_full s.job v)) is.shows
     (ap (unless (not (is_running s.phase)) NotNow) (split-tests (nat_eq s.region 0) (nat_lt (length s.blocks) s.region) (nat_le s.job.config.outbox (length (heads s.outbox))) (nat_lt (s.job.config.outbox - length (heads s.outbox)) s.region)
-        (λ some. no-room s.job.config.outbox (length (heads s.outbox)) s.region l.at_most_one some)))
+    (λ some. no-room s.job.config.outbox (length (heads s.outbox)) s.region l.at_most_one some)))
 
 pub advance-wait : (s : State) (old : Seen) (n : ℕ) → IsState s → seen_of s ≡ old → n ≡ length s.blocks → wait old.job (view_of old) (Advance 0) false ≡ advance-tests (is_running s.phase) (nat_eq s.region 0) (nat_lt n s.region) (is_full old.job (view_of old))
 advance-wait s old n is same count =

@@ -1,26 +1,26 @@
 -- The events of the copy: what they leave is a state.
-use Rattle.std.specs.Prelude.{◌≡◌, ◌≢◌, ◌≤◌, ◌<◌, ℕ, zero, suc, ◌+◌, ◌-◌, ◌||◌, min, nat_lt, Bool, true, false, List, [], ◌∷◌, ◌++◌, length, map, set, get_or, Option, None}
+use Rattle.std.specs.Prelude.{◌≡◌, ◌≢◌, ◌≤◌, ◌<◌, ℕ, ◌+◌, ◌-◌, ◌||◌, min, nat_lt, Bool, true, false, List, [], ◌∷◌, ◌++◌, length, set, get_or, Option, None}
 use Rattle.std.proofs.Common.{arith, refl, ap, sym, subst, ◌∙◌, length-append}
 use Rattle.std.proofs.lemmas.List.{map-append}
 use Rattle.std.specs.Prelude.{slice_index, slice_set}
 use Rattle.xv_model.specs.Job.{Job, UnitId, unit_count, blocks, unit_of_block}
-use Rattle.xv_model.specs.View.{View, Disk, Outbox, disk, number, no_disk}
-use Rattle.xv_model.specs.Wait.{Event, Why, wait, fits}
-use Rattle.xv_model.specs.Effect.{Turn, effect, answer, with_disk, cursor_unit, made, made_run}
+use Rattle.xv_model.specs.View.{View, Disk, number, no_disk}
+use Rattle.xv_model.specs.Wait.{Event, Why, wait}
+use Rattle.xv_model.specs.Effect.{Turn, effect, answer, with_disk, made, made_run}
 use Rattle.xv_model.specs.Step.{Entry, run}
 use Rattle.xv_model.specs.Invariant.{IsViewOf}
 use Rattle.xv_model.specs.Contents.{moves, unit_content}
-use Rattle.xv_model.proofs.GoesOn.{begin_goes, read_goes, advance_goes, BeginGoes, ReadGoes, AdvanceGoes}
+use Rattle.xv_model.proofs.GoesOn.{begin_goes, read_goes, advance_goes, ReadGoes, AdvanceGoes}
 use Rattle.xv_model.proofs.Layouts.{is_block, unsent_block_from, cursor_of}
 use Rattle.xv_job.specs.Built.{IsBuilt}
 use Rattle.xv_job.specs.BuiltEvents.{has_begin}
-use Rattle.xv_core.specs.State.{State, IsState, shown, held_contents, heads, contents}
+use Rattle.xv_core.specs.State.{State, IsState, shown, held_contents, contents}
 use Rattle.xv_core.specs.declared.message.Message.{Message}
 use Rattle.xv_device.specs.Device.{ReadRange}
 use Rattle.xv_device.specs.Memory.{Device, after}
 use Rattle.xv_core.proofs.Runs.{Next, next, next-done}
-use Rattle.xv_core.proofs.Plain.{Plain, plain, state-next, has_begin-push, not_begun-before, length-next}
-use Rattle.xv_base.specs.declared.event.Event.TheVariants.{Guest, Begin, Read, Advance}
+use Rattle.xv_core.proofs.Plain.{plain, state-next, has_begin-push, not_begun-before, length-next}
+use Rattle.xv_base.specs.declared.event.Event.TheVariants.{Begin, Read, Advance}
 use Rattle.xv_base.specs.declared.answer.Turn.TheVariants.{Done}
 
 -- the view that a state shows, with the invariant, and an event that goes on there
@@ -105,28 +105,28 @@ begin-holds s j is goes same =
     let longer : length j ≡ length s.journal + 1 = ap length same ∙ length-next s (Begin 0) in
     let p = plain s is in
     state-next s new (Begin 0) (begin-next s is goes) refl same
-      (shown-effect s new (Begin 0) is (ap (λ (d : Disk). with_disk (shown s v) 0 d) (same-disk s.cursor 1 (min s.job.config.region (blocks s.job.shape.disks 0 - s.cursor)) (length s.blocks) 0 (sym (begin-length s is goes)) unread)))
-      (shown-moves s new (Begin 0) is (ap (λ bs. record (held_contents s) { regions = bs ∷ [] }) empty))
-      (record {
-        good = p.good;
-        built = p.built;
-        unwritten = p.unwritten;
-        source_made = p.source_made;
-        dest_made = p.dest_made;
-        source_counts = p.source_counts;
-        dest_counts = p.dest_counts;
-        source_shape = p.source_shape;
-        dest_shape = p.dest_shape;
-        no_late_page = p.no_late_page;
-        next_page_within = p.next_page_within;
-        few_rounds = p.few_rounds;
-        not_begun = λ h. let on = sym (ap has_begin same ∙ has_begin-push s.journal _ ∙ or-true (has_begin s.journal)) ∙ h in absurd (cc);
-        history_room = p.history_room;
-        source_plan = p.source_plan;
-        dest_plan = p.dest_plan;
-        source_calls = (omega (arith, p.source_calls), omega (arith, p.source_calls));
-        dest_calls = (omega (arith, p.dest_calls), omega (arith, p.dest_calls));
-      })
+    (shown-effect s new (Begin 0) is (ap (λ (d : Disk). with_disk (shown s v) 0 d) (same-disk s.cursor 1 (min s.job.config.region (blocks s.job.shape.disks 0 - s.cursor)) (length s.blocks) 0 (sym (begin-length s is goes)) unread)))
+    (shown-moves s new (Begin 0) is (ap (λ bs. record (held_contents s) { regions = bs ∷ [] }) empty))
+    (record {
+      good = p.good;
+      built = p.built;
+      unwritten = p.unwritten;
+      source_made = p.source_made;
+      dest_made = p.dest_made;
+      source_counts = p.source_counts;
+      dest_counts = p.dest_counts;
+      source_shape = p.source_shape;
+      dest_shape = p.dest_shape;
+      no_late_page = p.no_late_page;
+      next_page_within = p.next_page_within;
+      few_rounds = p.few_rounds;
+      not_begun = λ h. let on = sym (ap has_begin same ∙ has_begin-push s.journal _ ∙ or-true (has_begin s.journal)) ∙ h in absurd (cc);
+      history_room = p.history_room;
+      source_plan = p.source_plan;
+      dest_plan = p.dest_plan;
+      source_calls = (omega (arith, p.source_calls), omega (arith, p.source_calls));
+      dest_calls = (omega (arith, p.dest_calls), omega (arith, p.dest_calls));
+    })
 
 -- a block of the region is read
 pub read-goes : (s : State) → IsState s → wait s.job (run s.job s.journal) (Read 0) false ≡ None → ReadGoes s.job (shown s (run s.job s.journal)) 0
@@ -165,28 +165,28 @@ read-by s j n is goes same =
     let longer : length j ≡ length s.journal + 1 = ap length same ∙ length-next s (Read 0) in
     let p = plain s is in
     state-next s new (Read 0) (read-next s is goes) refl same
-      (shown-effect s new (Read 0) is (ap (λ k. with_disk (shown s v) 0 (disk-with s.cursor s.region k)) (length-append s.blocks (unit_content s.source.contents (block-unit s) ∷ []))))
-      (shown-moves s new (Read 0) is (ap (λ u. record (held_contents s) { regions = (s.blocks ++ unit_content s.source.contents u ∷ []) ∷ [] }) (sym (block-number s is goes))))
-      (record {
-        good = p.good;
-        built = p.built;
-        unwritten = p.unwritten;
-        source_made = p.source_made;
-        dest_made = p.dest_made;
-        source_counts = p.source_counts;
-        dest_counts = p.dest_counts;
-        source_shape = p.source_shape;
-        dest_shape = p.dest_shape;
-        no_late_page = p.no_late_page;
-        next_page_within = p.next_page_within;
-        few_rounds = p.few_rounds;
-        not_begun = λ h. p.not_begun (not_begun-before s (Read 0) (sym (ap has_begin same) ∙ h));
-        history_room = p.history_room;
-        source_plan = p.source_plan;
-        dest_plan = p.dest_plan;
-        source_calls = (omega (arith, p.source_calls), omega (arith, p.source_calls));
-        dest_calls = (omega (arith, p.dest_calls), omega (arith, p.dest_calls));
-      })
+    (shown-effect s new (Read 0) is (ap (λ k. with_disk (shown s v) 0 (disk-with s.cursor s.region k)) (length-append s.blocks (unit_content s.source.contents (block-unit s) ∷ []))))
+    (shown-moves s new (Read 0) is (ap (λ u. record (held_contents s) { regions = (s.blocks ++ unit_content s.source.contents u ∷ []) ∷ [] }) (sym (block-number s is goes))))
+    (record {
+      good = p.good;
+      built = p.built;
+      unwritten = p.unwritten;
+      source_made = p.source_made;
+      dest_made = p.dest_made;
+      source_counts = p.source_counts;
+      dest_counts = p.dest_counts;
+      source_shape = p.source_shape;
+      dest_shape = p.dest_shape;
+      no_late_page = p.no_late_page;
+      next_page_within = p.next_page_within;
+      few_rounds = p.few_rounds;
+      not_begun = λ h. p.not_begun (not_begun-before s (Read 0) (sym (ap has_begin same) ∙ h));
+      history_room = p.history_room;
+      source_plan = p.source_plan;
+      dest_plan = p.dest_plan;
+      source_calls = (omega (arith, p.source_calls), omega (arith, p.source_calls));
+      dest_calls = (omega (arith, p.dest_calls), omega (arith, p.dest_calls));
+    })
 
 pub read-holds : (s : State) (j : List Entry) (unit n : ℕ) (source : Device) (blocks : List (List ℕ)) → IsState s → wait s.job (run s.job s.journal) (Read 0) false ≡ None → j ≡ next s (Read 0) →
     unit ≡ block-unit s → source ≡ after (ReadRange unit 0 n) false s.source → blocks ≡ s.blocks ++ unit_content s.source.contents unit ∷ [] → IsState (record s { journal = j; source = source; blocks = blocks })
@@ -240,38 +240,38 @@ advance-by s j block is goes same read =
     let p = plain s is in
     let at_one : View = record (shown s v) { disks = disk-with (s.cursor + 1) 0 0 ∷ []; outbox = made (shown s v).outbox (block-unit s) (length s.history) } in
     let does : at_one ≡ effect s.job (shown s v) (Advance 0) =
-        ap (λ u. record (shown s v) { disks = disk-with (s.cursor + 1) 0 0 ∷ []; outbox = made (shown s v).outbox u (length s.history) }) (sym (no-more s))
-        ∙ ap (λ r. record (shown s v) { disks = disk-with (s.cursor + r) 0 0 ∷ []; outbox = made_run (shown s v).outbox (block-unit s) (length s.history) r }) (sym (one-region s is goes)) in
+    ap (λ u. record (shown s v) { disks = disk-with (s.cursor + 1) 0 0 ∷ []; outbox = made (shown s v).outbox u (length s.history) }) (sym (no-more s))
+    ∙ ap (λ r. record (shown s v) { disks = disk-with (s.cursor + r) 0 0 ∷ []; outbox = made_run (shown s v).outbox (block-unit s) (length s.history) r }) (sym (one-region s is goes)) in
     let shows : shown new at_one ≡ at_one = ap (λ ms. record at_one { outbox = record at_one.outbox { messages = ms } }) (map-append (λ (m : Message). m.head) s.outbox (message ∷ [])) in
     let holds : held_contents new ≡ moves s.job (shown s v) (Advance 0) (held_contents s) =
-        ap (λ ms. record (held_contents s) { regions = [] ∷ []; outbox = ms }) (map-append (λ (m : Message). m.content) s.outbox (message ∷ []))
-        ∙ ap (λ bs. record (held_contents s) { regions = [] ∷ []; outbox = contents s.outbox ++ bs }) (sym read) in
+    ap (λ ms. record (held_contents s) { regions = [] ∷ []; outbox = ms }) (map-append (λ (m : Message). m.content) s.outbox (message ∷ []))
+    ∙ ap (λ bs. record (held_contents s) { regions = [] ∷ []; outbox = contents s.outbox ++ bs }) (sym read) in
     state-next s new (Advance 0) (advance-next s is goes) refl same
-      (shown-effect s new (Advance 0) is (subst (λ w. shown new w ≡ w) does shows))
-      (shown-moves s new (Advance 0) is holds)
-      (record {
-        good = p.good;
-        built = p.built;
-        unwritten = p.unwritten;
-        source_made = p.source_made;
-        dest_made = p.dest_made;
-        source_counts = p.source_counts;
-        dest_counts = p.dest_counts;
-        source_shape = p.source_shape;
-        dest_shape = p.dest_shape;
-        no_late_page = p.no_late_page;
-        next_page_within = p.next_page_within;
-        few_rounds = p.few_rounds;
-        not_begun = λ h.
-            let none : s.region ≡ 0 = (p.not_begun (not_begun-before s (Advance 0) (sym (ap has_begin same) ∙ h))).1 in
-            let one = one-region s is goes in
-            absurd (omega arith);
-        history_room = p.history_room;
-        source_plan = p.source_plan;
-        dest_plan = p.dest_plan;
-        source_calls = (omega (arith, p.source_calls), omega (arith, p.source_calls));
-        dest_calls = (omega (arith, p.dest_calls), omega (arith, p.dest_calls));
-      })
+    (shown-effect s new (Advance 0) is (subst (λ w. shown new w ≡ w) does shows))
+    (shown-moves s new (Advance 0) is holds)
+    (record {
+      good = p.good;
+      built = p.built;
+      unwritten = p.unwritten;
+      source_made = p.source_made;
+      dest_made = p.dest_made;
+      source_counts = p.source_counts;
+      dest_counts = p.dest_counts;
+      source_shape = p.source_shape;
+      dest_shape = p.dest_shape;
+      no_late_page = p.no_late_page;
+      next_page_within = p.next_page_within;
+      few_rounds = p.few_rounds;
+      not_begun = λ h.
+          let none : s.region ≡ 0 = (p.not_begun (not_begun-before s (Advance 0) (sym (ap has_begin same) ∙ h))).1 in
+          let one = one-region s is goes in
+          absurd (omega arith);
+      history_room = p.history_room;
+      source_plan = p.source_plan;
+      dest_plan = p.dest_plan;
+      source_calls = (omega (arith, p.source_calls), omega (arith, p.source_calls));
+      dest_calls = (omega (arith, p.dest_calls), omega (arith, p.dest_calls));
+    })
 
 -- the block at the cursor has no message yet
 pub unmade : (s : State) → IsState s → s.cursor < blocks s.job.shape.disks 0 → number s.issued (block-unit s) ≡ 0
@@ -300,10 +300,10 @@ advance-holds s j unit version at cursor block blocks outbox issued is goes same
     let number_of : version ≡ number s.issued (block-unit s) + 1 = is_version ∙ ap (λ u. number s.issued u + 1) is_unit in
     let all_issued : issued ≡ set s.issued (block-unit s) (number s.issued (block-unit s) + 1) = is_issued ∙ ap (λ n. set s.issued unit.0 n) number_of ∙ ap (λ u. set s.issued u (number s.issued (block-unit s) + 1)) is_unit in
     let sent : outbox ≡ s.outbox ++ next-message s (block-unit s) block ∷ [] =
-        is_outbox
-        ∙ ap (λ (u : UnitId). s.outbox ++ record { head = record { unit = u; version = version; at = at }; content = block } ∷ []) this
-        ∙ ap (λ n. s.outbox ++ record { head = record { unit = record { 0 = block-unit s }; version = n; at = at }; content = block } ∷ []) number_of
-        ∙ ap (λ n. s.outbox ++ record { head = record { unit = record { 0 = block-unit s }; version = number s.issued (block-unit s) + 1; at = n }; content = block } ∷ []) is_at in
+    is_outbox
+    ∙ ap (λ (u : UnitId). s.outbox ++ record { head = record { unit = u; version = version; at = at }; content = block } ∷ []) this
+    ∙ ap (λ n. s.outbox ++ record { head = record { unit = record { 0 = block-unit s }; version = n; at = at }; content = block } ∷ []) number_of
+    ∙ ap (λ n. s.outbox ++ record { head = record { unit = record { 0 = block-unit s }; version = number s.issued (block-unit s) + 1; at = n }; content = block } ∷ []) is_at in
     let by = advance-by s j block is goes same read in
     subst (λ c. IsState (record s { journal = j; cursor = c; region = 0; blocks = blocks; outbox = outbox; issued = issued })) (sym is_cursor)
     (subst (λ bs. IsState (record s { journal = j; cursor = s.cursor + 1; region = 0; blocks = bs; outbox = outbox; issued = issued })) (sym none)

@@ -1,10 +1,10 @@
 -- The answer of an event that went on.
-use Rattle.std.specs.Prelude.{◌≡◌, ◌++◌, [], ◌∷◌, false, true, List, None}
-use Rattle.std.proofs.Common.{refl, ap, sym, subst, ◌∙◌}
+use Rattle.std.specs.Prelude.{◌≡◌, ◌++◌, [], ◌∷◌, false, List, None}
+use Rattle.std.proofs.Common.{ap, sym, subst, ◌∙◌}
 use Rattle.xv_model.specs.Wait.{Event, wait}
 use Rattle.xv_model.specs.Effect.{Turn, Note, answer}
-use Rattle.xv_model.specs.Step.{Entry, run, turn, is_wait, entry_of}
-use Rattle.xv_core.specs.Seen.{Seen, IsStep, view_of, is_no_memory}
+use Rattle.xv_model.specs.Step.{Entry, run}
+use Rattle.xv_core.specs.Seen.{Seen, IsStep, view_of}
 use Rattle.xv_core.specs.State.{State, seen_of}
 use Rattle.xv_core.proofs.Runs.{next, turn-goes_on}
 use Rattle.xv_base.specs.declared.answer.Turn.TheVariants.{Done}

@@ -1,5 +1,5 @@
 -- A write of the guest, before the copy begins: what it leaves is a state.
-use Rattle.std.specs.Prelude.{◌≡◌, ◌≤◌, ◌<◌, ℕ, zero, suc, ◌+◌, ◌-◌, ◌||◌, ◌&&◌, ◌==◌, not, nat_lt, nat_le, is_some, is_none, unwrap_or, Bool, true, false, List, [], ◌∷◌, ◌++◌, length, map, set, take, drop, get_or, Option, None, Some, if◌then◌else◌, sum_by, ◌^◌, IfSome, IsSome}
+use Rattle.std.specs.Prelude.{◌≡◌, ◌≤◌, ◌<◌, ℕ, zero, suc, ◌+◌, ◌-◌, ◌||◌, ◌&&◌, ◌==◌, not, nat_lt, nat_le, is_some, is_none, unwrap_or, Bool, true, false, List, [], ◌∷◌, ◌++◌, length, map, set, get_or, Option, None, Some, if◌then◌else◌, sum_by, ◌^◌, IfSome, IsSome}
 use Rattle.std.proofs.Common.{rules, arith, refl, ap, sym, subst, ◌∙◌, length-append}
 use Rattle.std.proofs.lemmas.List.{append-nil, length-set, get_or-set_same, get_or-set_other}
 use Rattle.std.proofs.Math.ListN.{drop_of_length-le}
@@ -7,30 +7,28 @@ use Rattle.std.proofs.lemmas.List.Sums.{sum_by-cons}
 use Rattle.std.proofs.lemmas.Bool.{leb-true, leb-false, eq-eqb, eqb-true, eqb-false, ne_eqb, le-ltb, le-leb, lt-leb}
 use Rattle.xv_base.specs.Pattern.{repeated}
 use Rattle.xv_base.specs.declared.unit.DiskShape.{DiskShape}
-use Rattle.xv_model.specs.Job.{Job, Shape, UnitId, UnitOp, units, IsGoodJob, trace, operation, guest_count, operation_count, unit_count, size, blocks, is_page, disk_of, block_of}
-use Rattle.xv_model.specs.Guest.{Ended, ended, wrote, writes, writes_to, content, overlaid, part}
-use Rattle.xv_model.specs.View.{View, Disk, Phase, no_disk, disk, number, is_running, is_stunned, is_switched, is_live, is_behind, is_inside, is_copied, all_copied, all_copied_by}
-use Rattle.xv_model.specs.Wait.{Event, Why, Aim, Alone, Store, Join, Mirror, is_join, is_mirror, next_aim, next_operation, reaches, unless, wait, fits}
-use Rattle.xv_model.specs.Effect.{Turn, effect, answer, guest_by, guest_answer}
+use Rattle.xv_model.specs.Job.{Job, Shape, UnitOp, units, trace, operation, operation_count, unit_count, size, blocks, disk_of, block_of}
+use Rattle.xv_model.specs.Guest.{Ended, ended, wrote, writes, overlaid, part}
+use Rattle.xv_model.specs.View.{Disk, no_disk, disk, number, is_running, is_stunned, is_switched, is_live, is_behind, is_inside, all_copied_by}
+use Rattle.xv_model.specs.Wait.{Event, Why, Aim, Alone, Store, Join, Mirror, is_join, is_mirror, next_aim, reaches, unless, wait}
+use Rattle.xv_model.specs.Effect.{answer, guest_by, guest_answer}
 use Rattle.xv_model.specs.Step.{Entry, run}
-use Rattle.xv_model.specs.Invariant.{IsViewOf}
 use Rattle.xv_model.specs.Contents.{Contents, HoldsContents, moves, unit_content, after_operation}
-use Rattle.xv_model.proofs.GoesOn.{aim_of, guest_goes, GuestGoes}
+use Rattle.xv_model.proofs.GoesOn.{aim_of, guest_goes}
 use Rattle.xv_model.proofs.Histories.{push, writes-push_at}
 use Rattle.xv_model.proofs.Layouts.{block_from}
 use Rattle.xv_model.proofs.Contents.Sizes.{length-repeated, length-content}
-use Rattle.xv_job.specs.Built.{IsBuilt, IsBlockWrite, written}
+use Rattle.xv_job.specs.Built.{IsBlockWrite, written}
 use Rattle.xv_job.specs.BuiltEvents.{has_begin}
 use Rattle.xv_core.specs.Seen.{Seen, view_of}
 use Rattle.xv_core.specs.State.{State, IsState, shown, seen_of, held_contents}
 use Rattle.xv_device.specs.Device.{WriteUnit}
 use Rattle.xv_device.specs.Memory.{Device, after}
 use Rattle.xv_core.proofs.Runs.{Next, next, next-done}
-use Rattle.xv_core.proofs.Plain.{Plain, plain, source_reach, state-next, not_begun-before, length-next}
+use Rattle.xv_core.proofs.Plain.{plain, source_reach, state-next, length-next}
 use Rattle.xv_core.proofs.Copying.{shown-view, shown-goes, shown-wait, shown-effect, shown-moves, shown-answer}
 use Rattle.xv_base.specs.declared.operation.Outcome.TheVariants.{Done as Happened}
 use Rattle.xv_base.specs.declared.event.Event.TheVariants.{Guest}
-use Rattle.xv_base.specs.declared.event.Phase.TheVariants.{Running, Stunned, Switched, Cancelled, Failed}
 use Rattle.xv_base.specs.declared.answer.Turn.TheVariants.{Done}
 use Rattle.xv_base.specs.declared.answer.Why.TheVariants.{TraceEnd, InQueue, CancelDue, Stunned as StunWait, Throttled}
 
@@ -73,10 +71,10 @@ early s is h =
     let quiet = (shown-view s is).quiet in
     let some = is.good.some_blocks 0 (omega arith) in
     let copied = λ (on : (is_stunned s.phase || is_switched s.phase) ≡ true).
-        let all : all_copied_by (map (λ d. d.blocks) s.job.shape.disks) (record { cursor = s.cursor; region = s.region; got = length s.blocks; queue = [] } ∷ []) ≡ true = quiet.all_copied on in
-        not_copied-by s.job.shape.disks (length s.blocks) some one
-        (subst (λ r. all_copied_by (map (λ d. d.blocks) s.job.shape.disks) (record { cursor = 0; region = r; got = length s.blocks; queue = [] } ∷ []) ≡ true) at.1
-        (subst (λ c. all_copied_by (map (λ d. d.blocks) s.job.shape.disks) (record { cursor = c; region = s.region; got = length s.blocks; queue = [] } ∷ []) ≡ true) at.0 all)) in
+    let all : all_copied_by (map (λ d. d.blocks) s.job.shape.disks) (record { cursor = s.cursor; region = s.region; got = length s.blocks; queue = [] } ∷ []) ≡ true = quiet.all_copied on in
+    not_copied-by s.job.shape.disks (length s.blocks) some one
+    (subst (λ r. all_copied_by (map (λ d. d.blocks) s.job.shape.disks) (record { cursor = 0; region = r; got = length s.blocks; queue = [] } ∷ []) ≡ true) at.1
+    (subst (λ c. all_copied_by (map (λ d. d.blocks) s.job.shape.disks) (record { cursor = c; region = s.region; got = length s.blocks; queue = [] } ∷ []) ≡ true) at.0 all)) in
     let off = either-off (is_stunned s.phase) (is_switched s.phase) copied in
     record { cursor = at.0; region = at.1; not_stunned = off.0; not_switched = off.1 }
 
@@ -164,8 +162,8 @@ guest-answer s is h goes =
     let more = guest-more s is goes in
     let w = is-write s is more in
     shown-answer s act _ is
-      (ap (λ (a : Aim). guest_answer (next-op s) a) (is-alone s is h more)
-      ∙ ap (λ b. Done (record { a = if b then 0 else (next-op s).len; b = 0 })) (writes-some (next-op s).write (written (next-op s)) w.writes))
+    (ap (λ (a : Aim). guest_answer (next-op s) a) (is-alone s is h more)
+    ∙ ap (λ b. Done (record { a = if b then 0 else (next-op s).len; b = 0 })) (writes-some (next-op s).write (written (next-op s)) w.writes))
 
 pub guest-next : (s : State) → IsState s → has_begin s.journal ≡ false → wait s.job (run s.job s.journal) act false ≡ None → Next s act
 guest-next s is h goes =
@@ -207,9 +205,9 @@ pub guest-room : (s : State) → IsState s → ended s.history 0 < length (trace
 guest-room s is more =
     let legal = (shown-view s is).history.legal in
     let all = only-guest s.history (λ g above.
-        let few : ended s.history g ≤ length (trace s.job g) = legal g in
-        let none : length (trace s.job g) ≡ 0 = no-trace s.job.traces g is.built.one_guest above in
-        omega arith) in
+    let few : ended s.history g ≤ length (trace s.job g) = legal g in
+    let none : length (trace s.job g) ≡ 0 = no-trace s.job.traces g is.built.one_guest above in
+    omega arith) in
     let count : operation_count s.job ≡ length (trace s.job 0) = sum-of-one s.job.traces is.built.one_guest in
     omega arith
 
@@ -312,31 +310,31 @@ guest-by s j is h goes same =
     let reach : source_reach new ≡ length new.history = ap (λ b. if b then unwrap_or s.stun 0 else length new.history) e.not_switched in
     let reached : source_reach s ≡ length s.history = ap (λ b. if b then unwrap_or s.stun 0 else length s.history) e.not_switched in
     state-next s new act (guest-next s is h goes) refl same
-      (shown-effect s new act is (subst (λ w. shown new w ≡ w) (ap (λ (a : Aim). guest_by s.job (shown s v) 0 (next-op s) a) (sym (is-alone s is h more))) refl))
-      (shown-moves s new act is (guest-moved s is h goes))
-      (record {
-        good = p.good;
-        built = p.built;
-        unwritten = p.unwritten;
-        source_made = λ u lt. guest-made s is h goes u lt ∙ ap (writes s.job new.history u) (sym reach);
-        dest_made = λ u lt. p.dest_made u lt
-            ∙ ap (λ n. number s.applied u + (writes s.job s.history u (length s.history) - writes s.job s.history u n)) reached
-            ∙ same-gap (number s.applied u) (writes s.job s.history u (length s.history)) (writes s.job new.history u (length new.history))
-            ∙ ap (λ n. number s.applied u + (writes s.job new.history u (length new.history) - writes s.job new.history u n)) (sym reach);
-        source_counts = length-set s.source.writes (next-op s).unit.0 (number s.source.writes (next-op s).unit.0 + 1) ∙ p.source_counts;
-        dest_counts = p.dest_counts;
-        source_shape = p.source_shape;
-        dest_shape = p.dest_shape;
-        no_late_page = p.no_late_page;
-        next_page_within = p.next_page_within;
-        few_rounds = p.few_rounds;
-        not_begun = λ none. p.not_begun h;
-        history_room = let room = guest-room s is more in let l = length-append s.history (entry-done ∷ []) in omega arith;
-        source_plan = p.source_plan;
-        dest_plan = p.dest_plan;
-        source_calls = (omega (arith, p.source_calls), omega (arith, p.source_calls));
-        dest_calls = (omega (arith, p.dest_calls), omega (arith, p.dest_calls));
-      })
+    (shown-effect s new act is (subst (λ w. shown new w ≡ w) (ap (λ (a : Aim). guest_by s.job (shown s v) 0 (next-op s) a) (sym (is-alone s is h more))) refl))
+    (shown-moves s new act is (guest-moved s is h goes))
+    (record {
+      good = p.good;
+      built = p.built;
+      unwritten = p.unwritten;
+      source_made = λ u lt. guest-made s is h goes u lt ∙ ap (writes s.job new.history u) (sym reach);
+      dest_made = λ u lt. p.dest_made u lt
+          ∙ ap (λ n. number s.applied u + (writes s.job s.history u (length s.history) - writes s.job s.history u n)) reached
+          ∙ same-gap (number s.applied u) (writes s.job s.history u (length s.history)) (writes s.job new.history u (length new.history))
+          ∙ ap (λ n. number s.applied u + (writes s.job new.history u (length new.history) - writes s.job new.history u n)) (sym reach);
+      source_counts = length-set s.source.writes (next-op s).unit.0 (number s.source.writes (next-op s).unit.0 + 1) ∙ p.source_counts;
+      dest_counts = p.dest_counts;
+      source_shape = p.source_shape;
+      dest_shape = p.dest_shape;
+      no_late_page = p.no_late_page;
+      next_page_within = p.next_page_within;
+      few_rounds = p.few_rounds;
+      not_begun = λ none. p.not_begun h;
+      history_room = let room = guest-room s is more in let l = length-append s.history (entry-done ∷ []) in omega arith;
+      source_plan = p.source_plan;
+      dest_plan = p.dest_plan;
+      source_calls = (omega (arith, p.source_calls), omega (arith, p.source_calls));
+      dest_calls = (omega (arith, p.dest_calls), omega (arith, p.dest_calls));
+    })
 
 pub guest-holds : (s : State) (j : List Entry) (op : UnitOp) (bytes : List ℕ) (source : Device) (history : List Ended) → IsState s → has_begin s.journal ≡ false → wait s.job (run s.job s.journal) act false ≡ None → j ≡ next s act →
     op ≡ next-op s → bytes ≡ act-bytes s → source ≡ after (WriteUnit op.unit.0 bytes) false s.source → history ≡ push s.history entry-done → IsState (record s { journal = j; source = source; history = history })

@@ -2,11 +2,11 @@
 use Rattle.std.specs.Prelude.{◌≡◌, ◌==◌, ◌&&◌, Bool, true, false, List, [], ◌∷◌, ◌++◌, Option, None}
 use Rattle.std.proofs.Common.{refl, ap, sym, subst, ◌∙◌}
 use Rattle.std.proofs.lemmas.Bool.{and_parts, eq-eqb}
-use Rattle.xv_model.specs.Job.{Job, IsGoodJob}
+use Rattle.xv_model.specs.Job.{Job}
 use Rattle.xv_model.specs.View.{View, first_view}
 use Rattle.xv_model.specs.Wait.{Event, Why, wait, fits}
-use Rattle.xv_model.specs.Effect.{Turn, Note, effect, answer}
-use Rattle.xv_model.specs.Step.{Entry, view_by, turn_by, step, turn, after, run, is_flagged, same_turn, is_run_from, is_run, breaks}
+use Rattle.xv_model.specs.Effect.{Note, effect, answer}
+use Rattle.xv_model.specs.Step.{Entry, view_by, turn_by, step, turn, after, run, is_flagged, same_turn, is_run_from, is_run}
 use Rattle.xv_model.specs.Invariant.{IsViewOf}
 use Rattle.xv_model.specs.Contents.{Contents, HoldsContents, moves, contents_by, step_contents}
 use Rattle.xv_model.proofs.Kept.{step-holds}

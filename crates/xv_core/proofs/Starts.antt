@@ -1,15 +1,16 @@
 -- How a migration begins: its first fields are a state.
-use Rattle.std.specs.Prelude.{◌≡◌, ◌≤◌, ◌<◌, ℕ, ◌+◌, ◌-◌, Bool, true, false, List, [], ◌∷◌, ◌++◌, length, map, replicate, None}
+use Rattle.std.specs.Prelude.{◌≡◌, ℕ, ◌+◌, ◌-◌, true, false, List, [], ◌∷◌, ◌++◌, length, map, replicate, None}
 use Rattle.std.specs.List.{range_with_len}
 use Rattle.std.proofs.Common.{arith, refl, ap, sym, subst, ◌∙◌}
 use Rattle.std.proofs.lemmas.List.{append-nil, length-replicate, get_or-replicate}
 use Rattle.std.proofs.lemmas.List.FromFn.{length-map-range_with_len, get_or-map-range_with_len}
-use Rattle.xv_base.specs.declared.unit.DiskShape.{DiskShape}
 use Rattle.xv_base.specs.declared.pattern.Init.{Init}
 use Rattle.xv_model.specs.Job.{Job, IsGoodJob, unit_count, size}
-use Rattle.xv_model.specs.Guest.{initial_by}
-use Rattle.xv_model.specs.View.{View, Disk, UnitHead, no_disk, number, first_view}
-use Rattle.xv_model.specs.Contents.{Contents, HoldsContents, first_contents}
+use Rattle.xv_model.specs.Guest.{Ended, initial_by}
+use Rattle.xv_model.specs.Step.{Entry}
+use Rattle.xv_core.specs.declared.message.Message.{Message}
+use Rattle.xv_model.specs.View.{no_disk, number, first_view}
+use Rattle.xv_model.specs.Contents.{HoldsContents, first_contents}
 use Rattle.xv_model.proofs.First.{first_view-holds}
 use Rattle.xv_model.proofs.Contents.Steps.{contents-first}
 use Rattle.xv_job.specs.Built.{IsBuilt}
@@ -24,27 +25,27 @@ no_plan = record { reads = []; writes = []; flushes = [] }
 -- the state in which nothing has happened
 abbrev pub first-state : Job → State
 first-state job = record {
-    job = job;
-    journal = [];
-    history = [];
-    source = fresh job.shape job.init no_plan;
-    dest = fresh job.shape [] no_plan;
-    phase = Running;
-    stun = None;
-    cursor = 0;
-    region = 0;
-    blocks = [];
-    next_page = job.shape.pages;
-    rounds = 0;
-    outbox = [];
-    issued = replicate (unit_count job) 0;
-    stream = [];
-    held = [];
-    applied = replicate (unit_count job) 0;
-    credit = job.config.credit;
-    freed = 0;
-    acks = []
-  }
+  job = job;
+  journal = [];
+  history = [];
+  source = fresh job.shape job.init no_plan;
+  dest = fresh job.shape [] no_plan;
+  phase = Running;
+  stun = None;
+  cursor = 0;
+  region = 0;
+  blocks = [];
+  next_page = job.shape.pages;
+  rounds = 0;
+  outbox = [];
+  issued = replicate (unit_count job) 0;
+  stream = [];
+  held = [];
+  applied = replicate (unit_count job) 0;
+  credit = job.config.credit;
+  freed = 0;
+  acks = [];
+}
 
 one-each : {X Y : Type 0} (xs : List X) (y : Y) → length xs ≡ 1 → y ∷ [] ≡ map (λ _. y) xs
 one-each [] y one = absurd (omega arith)
@@ -102,3 +103,32 @@ start-holds job good built = record {
   source_calls = (omega arith, omega arith);
   dest_calls = (omega arith, omega arith);
 }
+
+-- and so are fields that are told to be these
+pub start-as : (job : Job) (journal : List Entry) (history : List Ended) (source dest : Device) (blocks : List (List ℕ)) (pages : ℕ) (outbox : List Message) (issued : List ℕ) (stream held : List Message) (applied : List ℕ) (credit : ℕ) (acks : List ℕ) →
+    IsGoodJob job → IsBuilt job → journal ≡ [] → history ≡ [] → source ≡ fresh job.shape job.init no_plan → dest ≡ fresh job.shape [] no_plan → blocks ≡ [] → pages ≡ job.shape.pages → outbox ≡ [] → issued ≡ replicate (unit_count job) 0 →
+    stream ≡ [] → held ≡ [] → applied ≡ replicate (unit_count job) 0 → credit ≡ job.config.credit → acks ≡ [] →
+    IsState (record {
+      job = job;
+      journal = journal;
+      history = history;
+      source = source;
+      dest = dest;
+      phase = Running;
+      stun = None;
+      cursor = 0;
+      region = 0;
+      blocks = blocks;
+      next_page = pages;
+      rounds = 0;
+      outbox = outbox;
+      issued = issued;
+      stream = stream;
+      held = held;
+      applied = applied;
+      credit = credit;
+      freed = 0;
+      acks = acks;
+    })
+start-as job journal history source dest blocks pages outbox issued stream held applied credit acks good built a b c d e f g h i k l m n =
+    subst IsState (cc (a, b, c, d, e, f, g, h, i, k, l, m, n)) (start-holds job good built)

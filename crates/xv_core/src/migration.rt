@@ -80,14 +80,14 @@ impl Migration {
         let Some(parts) = Parts::new(alloc, &job) else {
             return Err(job);
         };
-        let credit = job.config.credit;
-        let next_page = job.layout.pages();
         let Parts {
             history,
             source,
             dest,
             issued,
             applied,
+            pages,
+            credit,
         } = parts;
         Ok(Migration {
             job,
@@ -100,7 +100,7 @@ impl Migration {
             cursor: 0,
             region: 0,
             blocks: Vec::new(alloc),
-            next_page,
+            next_page: pages,
             rounds: 0,
             outbox: VecDeque::new(alloc),
             issued,

@@ -1,7 +1,8 @@
 //! What a migration takes at its start.
 
 ghost use Rattle.std.specs.Prelude.{◌≡◌, IfSome, [], replicate};
-ghost use Rattle.xv_model.specs.Job.{operation_count, unit_count};
+ghost use Rattle.xv_model.specs.Job.{IsGoodJob, operation_count, unit_count};
+ghost use Rattle.xv_job.specs.Built.{IsBuilt};
 ghost use Rattle.xv_device.specs.Memory.{fresh};
 
 use std::alloc::Global;
@@ -17,6 +18,8 @@ pub struct Parts {
     pub dest: MemDevice,
     pub issued: Vec<u32>,
     pub applied: Vec<u32>,
+    pub pages: u32,
+    pub credit: u32,
 }
 
 impl Parts {
@@ -27,8 +30,14 @@ impl Parts {
         ensures dest { IfSome result (λ parts. parts.dest ≡ fresh job.now.shape [] (record { reads = []; writes = []; flushes = [] })) }
         ensures issued { IfSome result (λ parts. parts.issued.items ≡ replicate (unit_count job.now) 0) }
         ensures applied { IfSome result (λ parts. parts.applied.items ≡ replicate (unit_count job.now) 0) }
+        ensures pages { IfSome result (λ parts. parts.pages ≡ job.now.shape.pages) }
+        ensures credit { IfSome result (λ parts. parts.credit ≡ job.now.config.credit) }
+        ensures good { IfSome result (λ parts. IsGoodJob job.now) }
+        ensures built { IfSome result (λ parts. IsBuilt job.now) }
     {
         let units = job.layout.units() as usize;
+        let pages = job.layout.pages();
+        let credit = job.config.credit;
         let Ok(history) = History::new(alloc, job.operations()) else {
             return None;
         };
@@ -50,6 +59,8 @@ impl Parts {
             dest,
             issued,
             applied,
+            pages,
+            credit,
         })
     }
 }

@@ -8,13 +8,12 @@ ghost use Rattle.xv_job.specs.BuiltEvents.{has_begin};
 ghost use Rattle.xv_core.specs.Seen.{view_of, IsStep};
 ghost use Rattle.xv_base.specs.declared.event.Event.TheVariants.{Guest, Begin, Read, Advance};
 
-use std::alloc::Global;
-use xv_base::{Ended, Event, GuestId, Outcome, Turn, UnitId, UnitOp, Why};
-use xv_job::Job;
-
 use crate::migration::Migration;
 use crate::phase::is_running;
 use crate::steps::{content_of, issue, recorded, unless, written_by};
+use std::alloc::Global;
+use xv_base::{Ended, Event, GuestId, Outcome, Turn, UnitId, UnitOp, Why};
+use xv_job::Job;
 
 impl Migration {
     pub(super) fn guest_waits(&self) -> Option<Why>

@@ -1,6 +1,6 @@
 use Rattle.xv_core.specs.Fields.{state_of}
 use Rattle.std.proofs.Common.{◌≡◌, ◌<◌, ◌∙◌, refl, ap, sym, subst, arith}
-use Rattle.xv_core.proofs.Done.{seen-goes, entered, done}
+use Rattle.xv_core.proofs.Done.{seen-goes, entered}
 use Rattle.std.specs.Prelude.{◌+◌, ◌++◌, ◌∷◌, [], List, length, slice_index}
 use Rattle.xv_core.specs.declared.message.Message.{Message}
 use Rattle.xv_model.specs.View.{number}
@@ -37,7 +37,9 @@ pub invariant_of-self-2 : goal.invariant_of-self-2
 invariant_of-self-2 c =
     let s = state_of c.self.inside in
     let is = c.self.invariant.0 in
-    let goes = seen-goes s c.args.self.now (Advance 0) c.self.view_is c.requires in
-    (advance-holds s c.recorded.new.journal.items c.block_unit-unit.result c.issue.result c.len-at.result (c.self.inside.cursor + 1) c.in-Some.content c.pop.new.self.items c.issue.new.outbox.items c.issue.new.issued.items is goes
-      (entered s c.reserve.new.self.items (Advance 0) _ c.recorded.result c.recorded.new.journal.items c.reserve.ensures.items c.recorded.ensures.entry (advance-answer s is goes) c.recorded.ensures.answer)
-      c.block_unit-unit.ensures c.in-Some.ensures.items c.len-at.ensures.exactly c.issue.ensures.version c.issue.ensures.issued (c.issue.ensures.made ∙ ap (λ (xs : List Message). xs ++ record { head = record { unit = c.block_unit-unit.result; version = c.issue.result; at = c.len-at.result }; content = c.in-Some.content } ∷ []) c.reserve-else-is_err.ensures.items) refl, c.self.invariant.1)
+    let goes = seen-goes s c.args.self.now (Advance 0) c.self.view_is c.requires in (
+      advance-holds s c.recorded.new.journal.items c.block_unit-unit.result c.issue.result c.len-at.result (c.self.inside.cursor + 1) c.in-Some.content c.pop.new.self.items c.issue.new.outbox.items c.issue.new.issued.items is goes
+          (entered s c.reserve.new.self.items (Advance 0) _ c.recorded.result c.recorded.new.journal.items c.reserve.ensures.items c.recorded.ensures.entry (advance-answer s is goes) c.recorded.ensures.answer)
+          c.block_unit-unit.ensures c.in-Some.ensures.items c.len-at.ensures.exactly c.issue.ensures.version c.issue.ensures.issued (c.issue.ensures.made ∙ ap (λ (xs : List Message). xs ++ record { head = record { unit = c.block_unit-unit.result; version = c.issue.result; at = c.len-at.result }; content = c.in-Some.content } ∷ []) c.reserve-else-is_err.ensures.items) refl,
+      c.self.invariant.1,
+    )

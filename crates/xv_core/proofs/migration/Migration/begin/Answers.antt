@@ -1,4 +1,4 @@
-use Rattle.std.proofs.Common.{◌≡◌, ◌∙◌, refl}
+use Rattle.std.proofs.Common.{refl}
 use Rattle.xv_core.specs.Fields.{state_of}
 use Rattle.xv_core.proofs.Done.{seen-goes, entered, done}
 use Rattle.xv_core.proofs.Copying.{begin-holds, begin-answer}
@@ -20,5 +20,5 @@ returns c =
     let is = c.self.invariant.0 in
     let goes = seen-goes s c.args.self.now (Begin 0) c.self.view_is c.requires in
     done s c.args.self.now _ (Begin 0) _ c.recorded.result c.self.view_is refl
-      (entered s c.reserve.new.self.items (Begin 0) _ c.recorded.result c.recorded.new.journal.items c.reserve.ensures.items c.recorded.ensures.entry (begin-answer s is goes) c.recorded.ensures.answer)
-      goes (begin-answer s is goes) c.recorded.ensures.answer
+    (entered s c.reserve.new.self.items (Begin 0) _ c.recorded.result c.recorded.new.journal.items c.reserve.ensures.items c.recorded.ensures.entry (begin-answer s is goes) c.recorded.ensures.answer)
+    goes (begin-answer s is goes) c.recorded.ensures.answer

@@ -55,9 +55,10 @@ invariant_of-self-2 c =
     let is_op : c.operation-op.result ≡ next-op s = c.operation-op.ensures ∙ ap (operation s.job 0) c.ended.ensures in
     let h = seen-early s c.args.self.now c.self.view_is c.requires.early in
     let filled = c.deref.ensures.value ∙ guest-bytes s c.operation-op.result c.in-Some.bytes.items is goes is_op c.in-Some.ensures in
-    let journal = entered s c.reserve.new.self.items act _ c.recorded.result c.recorded.new.journal.items c.reserve.ensures.items c.recorded.ensures.entry (guest-answer s is h goes) c.recorded.ensures.answer in
-    (guest-holds s c.recorded.new.journal.items c.operation-op.result c.deref.result.now c.write.new.self c.push.new.self.entries is h goes journal is_op filled c.in-Ok.ensures.after c.push.ensures.entries,
-      c.push.ensures.room ∙ c.self.invariant.1)
+    let journal = entered s c.reserve.new.self.items act _ c.recorded.result c.recorded.new.journal.items c.reserve.ensures.items c.recorded.ensures.entry (guest-answer s is h goes) c.recorded.ensures.answer in (
+      guest-holds s c.recorded.new.journal.items c.operation-op.result c.deref.result.now c.write.new.self c.push.new.self.entries is h goes journal is_op filled c.in-Ok.ensures.after c.push.ensures.entries,
+      c.push.ensures.room ∙ c.self.invariant.1,
+    )
 
 pub returns : goal.returns
 returns c =

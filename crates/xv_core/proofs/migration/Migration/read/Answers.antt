@@ -1,5 +1,5 @@
 use Rattle.xv_core.specs.Fields.{state_of}
-use Rattle.std.proofs.Common.{◌≡◌, ◌<◌, ◌∙◌, refl, ap, sym, subst, arith}
+use Rattle.std.proofs.Common.{◌<◌, ◌∙◌, refl, ap, sym, subst}
 use Rattle.xv_core.proofs.Done.{seen-goes, entered, done}
 use Rattle.std.specs.Prelude.{◌++◌, ◌∷◌, []}
 use Rattle.xv_model.specs.Job.{units, size}
@@ -27,10 +27,12 @@ pub invariant_of-self-2 : goal.invariant_of-self-2
 invariant_of-self-2 c =
     let s = state_of c.self.inside in
     let is = c.self.invariant.0 in
-    let goes = seen-goes s c.args.self.now (Read 0) c.self.view_is c.requires in
-    (read-holds s c.recorded.new.journal.items c.block_unit-unit.result.0 (size c.self.inside.source.shape c.block_unit-unit.result.0) c.content_of.new.device c.push.new.self.items is goes
-      (entered s c.reserve.new.self.items (Read 0) _ c.recorded.result c.recorded.new.journal.items c.reserve.ensures.items c.recorded.ensures.entry (read-answer s is goes) (c.recorded.ensures.answer ∙ ap (λ n. Done (record { a = n; b = 0 })) c.block_unit-unit.ensures))
-      c.block_unit-unit.ensures c.in-Some.ensures.read (c.in-Ok.ensures.items ∙ ap (λ bs. bs ++ c.in-Some.content ∷ []) c.reserve-else-is_err.ensures.items ∙ ap (λ x. c.self.inside.blocks.items ++ x ∷ []) c.in-Some.ensures.content), c.self.invariant.1)
+    let goes = seen-goes s c.args.self.now (Read 0) c.self.view_is c.requires in (
+      read-holds s c.recorded.new.journal.items c.block_unit-unit.result.0 (size c.self.inside.source.shape c.block_unit-unit.result.0) c.content_of.new.device c.push.new.self.items is goes
+          (entered s c.reserve.new.self.items (Read 0) _ c.recorded.result c.recorded.new.journal.items c.reserve.ensures.items c.recorded.ensures.entry (read-answer s is goes) (c.recorded.ensures.answer ∙ ap (λ n. Done (record { a = n; b = 0 })) c.block_unit-unit.ensures))
+          c.block_unit-unit.ensures c.in-Some.ensures.read (c.in-Ok.ensures.items ∙ ap (λ bs. bs ++ c.in-Some.content ∷ []) c.reserve-else-is_err.ensures.items ∙ ap (λ x. c.self.inside.blocks.items ++ x ∷ []) c.in-Some.ensures.content),
+      c.self.invariant.1,
+    )
 
 pub returns : goal.returns
 returns c =
@@ -38,5 +40,5 @@ returns c =
     let is = c.self.invariant.0 in
     let goes = seen-goes s c.args.self.now (Read 0) c.self.view_is c.requires in
     done s c.args.self.now _ (Read 0) _ c.recorded.result c.self.view_is refl
-      (entered s c.reserve.new.self.items (Read 0) _ c.recorded.result c.recorded.new.journal.items c.reserve.ensures.items c.recorded.ensures.entry (read-answer s is goes) (c.recorded.ensures.answer ∙ ap (λ n. Done (record { a = n; b = 0 })) c.block_unit-unit.ensures))
-      goes (read-answer s is goes) (c.recorded.ensures.answer ∙ ap (λ n. Done (record { a = n; b = 0 })) c.block_unit-unit.ensures)
+    (entered s c.reserve.new.self.items (Read 0) _ c.recorded.result c.recorded.new.journal.items c.reserve.ensures.items c.recorded.ensures.entry (read-answer s is goes) (c.recorded.ensures.answer ∙ ap (λ n. Done (record { a = n; b = 0 })) c.block_unit-unit.ensures))
+    goes (read-answer s is goes) (c.recorded.ensures.answer ∙ ap (λ n. Done (record { a = n; b = 0 })) c.block_unit-unit.ensures)
