@@ -81,7 +81,7 @@ unwritten-next s v e h goes unit lt off =
     let still : nat_lt 0 (number v.hold.applied unit) ≡ false = ap (nat_lt 0) before in
     let first : unit_content (step_contents s.job v e false (held_contents s)).dest unit ≡ unit_content s.dest.contents unit = unwritten-same s.job v (held_contents s) e false unit h.view parts.0 none in
     subst (λ (c : Contents). unit_content c.dest unit ≡ replicate (size s.job.shape unit) 0) (contents-goes_on s.job v e (held_contents s) goes)
-      (first ∙ h.unwritten unit lt (or-none _ _ (not_switched-before s.job v e false parts.0) still))
+    (first ∙ h.unwritten unit lt (or-none _ _ (not_switched-before s.job v e false parts.0) still))
 
 same_note : (a b : ℕ) → same_turn (note a b) (note a b) ≡ true
 same_note a b = and_from _ _ (eq-eqb a a refl) (eq-eqb b b refl)
@@ -304,12 +304,12 @@ next_message s = get_or s.held (next_place s) no_content
 
 abbrev pub applied_one : State → State
 applied_one s = record s {
-    journal = pushed s Apply (next_message s).head.unit.0 (next_message s).head.version;
-    dest = after (WriteUnit (next_message s).head.unit.0 (next_message s).content) false s.dest;
-    held = remove s.held (next_place s);
-    applied = set s.applied (next_message s).head.unit.0 (next_message s).head.version;
-    freed = s.freed + 1
-  }
+  journal = pushed s Apply (next_message s).head.unit.0 (next_message s).head.version;
+  dest = after (WriteUnit (next_message s).head.unit.0 (next_message s).content) false s.dest;
+  held = remove s.held (next_place s);
+  applied = set s.applied (next_message s).head.unit.0 (next_message s).head.version;
+  freed = s.freed + 1;
+}
 
 -- the same message, as the view and the contents have it
 head-at : (s : State) → get_or (heads s.held) (next_place s) no_message ≡ (next_message s).head
@@ -400,9 +400,9 @@ apply-made s v h fits long unit lt =
     let before : number s.dest.writes unit ≡ number s.applied unit + later_writes s.job v unit = subst (λ (xs : List ℕ). number s.dest.writes unit ≡ number xs unit + later_writes s.job v unit) (sym applied) (h.dest_made unit lt) in
     let in_made : head.unit.0 < length s.dest.writes = let u = fits.unit_in in omega arith in
     let more : number (set s.dest.writes head.unit.0 (number s.dest.writes head.unit.0 + 1)) unit ≡ number (set s.applied head.unit.0 head.version) unit + later_writes s.job v unit =
-        made-more s.dest.writes s.applied head.unit.0 head.version unit (later_writes s.job v unit) in_made fits.within fits.counts before in
+    made-more s.dest.writes s.applied head.unit.0 head.version unit (later_writes s.job v unit) in_made fits.within fits.counts before in
     subst (λ (x : UnitHead). number (set s.dest.writes head.unit.0 (number s.dest.writes head.unit.0 + 1)) unit ≡ number (set v.hold.applied x.unit.0 x.version) unit + later_writes s.job v unit) (sym same)
-        (subst (λ (xs : List ℕ). number (set s.dest.writes head.unit.0 (number s.dest.writes head.unit.0 + 1)) unit ≡ number (set xs head.unit.0 head.version) unit + later_writes s.job v unit) applied more)
+    (subst (λ (xs : List ℕ). number (set s.dest.writes head.unit.0 (number s.dest.writes head.unit.0 + 1)) unit ≡ number (set xs head.unit.0 head.version) unit + later_writes s.job v unit) applied more)
 
 apply-shows : (s : State) (v : View) → Shows s v → NextFits s → length s.dest.writes ≡ unit_count s.job → IsViewOf s.job (applied_next v) → HoldsContents s.job (applied_next v) (apply_moves v (held_contents s)) →
     ((unit : ℕ) → unit < unit_count s.job → is_written (applied_next v) unit ≡ false → unit_content (apply_moves v (held_contents s)).dest unit ≡ replicate (size s.job.shape unit) 0) → Shows (applied_one s) (applied_next v)

@@ -162,7 +162,7 @@ apply-wait s m n i seen len =
     let long = length-map s.held (λ (x : Message). x.head) in
     let le : next_place s ≤ length s.held = let r = first_next-le s.applied (heads s.held) in omega arith in
     subst (λ (x : Seen). wait x.job (view_of x) Apply false ≡ unless (not (is_live s.phase)) NotNow (unless (next_place s == n) NothingThere None)) seen
-      (apply-waits s i ∙ ap (λ (b : Bool). unless (not (is_live s.phase)) NotNow (unless b NothingThere None)) (not_lt (next_place s) (length s.held) le ∙ ap (λ (k : ℕ). next_place s == k) (sym len)))
+    (apply-waits s i ∙ ap (λ (b : Bool). unless (not (is_live s.phase)) NotNow (unless b NothingThere None)) (not_lt (next_place s) (length s.held) le ∙ ap (λ (k : ℕ). next_place s == k) (sym len)))
 
 not_le : (a b : ℕ) → not (nat_le a b) ≡ nat_lt b a
 not_le a b = elim (cases_lt b a) [
@@ -183,7 +183,7 @@ pub switch-wait : (s : State) (m : Seen) (n : ℕ) → IsState s → seen_of s �
     wait m.job (view_of m) Switch false ≡ unless (not (is_stunned s.phase)) NotNow (unless (not (is_empty_set (view_of m).to_send)) NotNow (unless (not (n == 0)) NotNow (unless (nat_lt s.credit s.job.config.credit) NotNow None)))
 switch-wait s m n i seen len =
     subst (λ (x : Seen). wait x.job (view_of x) Switch false ≡ unless (not (is_stunned s.phase)) NotNow (unless (not (is_empty_set (view_of x).to_send)) NotNow (unless (not (n == 0)) NotNow (unless (nat_lt s.credit s.job.config.credit) NotNow None)))) seen
-      (switch-waits s i
-      ∙ ap (λ (w : Option Why). unless (not (is_stunned s.phase)) NotNow w) (in_turn (is_empty_set (now s).to_send) (is_empty s.outbox) (nat_le s.job.config.credit s.credit))
-      ∙ ap (λ (b : Bool). unless (not (is_stunned s.phase)) NotNow (unless (not (is_empty_set (now s).to_send)) NotNow (unless (not b) NotNow (unless (not (nat_le s.job.config.credit s.credit)) NotNow None)))) (none_there s.outbox n len)
-      ∙ ap (λ (b : Bool). unless (not (is_stunned s.phase)) NotNow (unless (not (is_empty_set (now s).to_send)) NotNow (unless (not (n == 0)) NotNow (unless b NotNow None)))) (not_le s.job.config.credit s.credit))
+    (switch-waits s i
+    ∙ ap (λ (w : Option Why). unless (not (is_stunned s.phase)) NotNow w) (in_turn (is_empty_set (now s).to_send) (is_empty s.outbox) (nat_le s.job.config.credit s.credit))
+    ∙ ap (λ (b : Bool). unless (not (is_stunned s.phase)) NotNow (unless (not (is_empty_set (now s).to_send)) NotNow (unless (not b) NotNow (unless (not (nat_le s.job.config.credit s.credit)) NotNow None)))) (none_there s.outbox n len)
+    ∙ ap (λ (b : Bool). unless (not (is_stunned s.phase)) NotNow (unless (not (is_empty_set (now s).to_send)) NotNow (unless (not (n == 0)) NotNow (unless b NotNow None)))) (not_le s.job.config.credit s.credit))

@@ -148,18 +148,18 @@ faulted-is (e ∷ h) =
 -- the report, as the state has it
 abbrev pub reported : State → Totals
 reported s = record {
-    phase = s.phase;
-    history = length s.history;
-    faulted = faulted s.history;
-    journal = length s.journal;
-    stun = s.stun;
-    copied = s.cursor;
-    rounds = s.rounds;
-    messages = sum s.issued;
-    mirrors = sum (drop s.job.shape.pages s.issued) - count_by (λ (k : ℕ). nat_lt 0 k) (drop s.job.shape.pages s.issued);
-    applied = sum s.applied;
-    credit = s.credit
-  }
+  phase = s.phase;
+  history = length s.history;
+  faulted = faulted s.history;
+  journal = length s.journal;
+  stun = s.stun;
+  copied = s.cursor;
+  rounds = s.rounds;
+  messages = sum s.issued;
+  mirrors = sum (drop s.job.shape.pages s.issued) - count_by (λ (k : ℕ). nat_lt 0 k) (drop s.job.shape.pages s.issued);
+  applied = sum s.applied;
+  credit = s.credit;
+}
 
 reported-at : (s : State) (v : View) → Shows s v → reported s ≡ totals s.job v (length s.journal)
 reported-at s v h = subst (λ (w : View). reported s ≡ totals s.job w (length s.journal)) h.shows

@@ -49,32 +49,32 @@ pages_from next pages = replicate next false ++ replicate (pages - next) true
 -- a view with all that the state has in it
 abbrev pub shown : State → View → View
 shown s v = record {
-    history = s.history;
-    stun = s.stun;
-    mark = v.mark;
-    phase = s.phase;
-    disks = record { cursor = s.cursor; region = s.region; got = length s.blocks; queue = [] } ∷ [];
-    dirty = replicate s.job.shape.pages (s.rounds == 0);
-    to_send = pages_from s.next_page s.job.shape.pages;
-    rounds = s.rounds;
-    outbox = record { messages = heads s.outbox; issued = s.issued; first = v.outbox.first };
-    streams = map (λ m. m.head ∷ []) s.stream ∷ [];
-    hold = record { held = heads s.held; applied = s.applied; recorded = v.hold.recorded };
-    credit = s.credit;
-    freed = s.freed;
-    acks = s.acks
-  }
+  history = s.history;
+  stun = s.stun;
+  mark = v.mark;
+  phase = s.phase;
+  disks = record { cursor = s.cursor; region = s.region; got = length s.blocks; queue = [] } ∷ [];
+  dirty = replicate s.job.shape.pages (s.rounds == 0);
+  to_send = pages_from s.next_page s.job.shape.pages;
+  rounds = s.rounds;
+  outbox = record { messages = heads s.outbox; issued = s.issued; first = v.outbox.first };
+  streams = map (λ m. m.head ∷ []) s.stream ∷ [];
+  hold = record { held = heads s.held; applied = s.applied; recorded = v.hold.recorded };
+  credit = s.credit;
+  freed = s.freed;
+  acks = s.acks;
+}
 
 abbrev pub held_contents : State → Contents
 held_contents s = record {
-    source = s.source.contents;
-    dest = s.dest.contents;
-    regions = s.blocks ∷ [];
-    outbox = contents s.outbox;
-    streams = map (λ m. m.content ∷ []) s.stream ∷ [];
-    held = contents s.held;
-    reads = []
-  }
+  source = s.source.contents;
+  dest = s.dest.contents;
+  regions = s.blocks ∷ [];
+  outbox = contents s.outbox;
+  streams = map (λ m. m.content ∷ []) s.stream ∷ [];
+  held = contents s.held;
+  reads = [];
+}
 
 -- what the state keeps
 pub record IsState (s : State) : Type 0 where

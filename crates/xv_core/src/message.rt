@@ -4,7 +4,6 @@ ghost use Rattle.std.specs.Prelude.{◌≡◌, IfOk, length, replicate};
 
 use std::alloc::{AllocError, Global};
 use std::marker::Model;
-
 use xv_base::UnitHead;
 
 /// The content of one unit, seen as its bytes.

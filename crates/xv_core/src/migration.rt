@@ -9,6 +9,8 @@ ghost use Rattle.xv_job.specs.BuiltEvents.{is_built_event, is_guest, has_begin};
 ghost use Rattle.xv_core.specs.Seen.{Seen, view_of, IsStep, IsKept};
 ghost use Rattle.xv_base.specs.declared.event.Event.TheVariants.{Guest, Begin, Read, Advance, Round, Page, Send, Deliver, Apply, Ack, Credit, Stun, Switch};
 
+use crate::message::{Content, Message};
+use crate::parts::Parts;
 use std::alloc::Global;
 use std::collections::VecDeque;
 use std::marker::Model;
@@ -16,9 +18,6 @@ use xv_base::{Entry, Event, Phase, Turn, Why};
 use xv_device::MemDevice;
 use xv_guest::History;
 use xv_job::Job;
-
-use crate::message::{Content, Message};
-use crate::parts::Parts;
 
 mod arrival;
 mod copying;

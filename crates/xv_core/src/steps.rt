@@ -10,12 +10,11 @@ ghost use Rattle.xv_model.specs.View.{is_next, first_next};
 ghost use Rattle.xv_model.specs.Wait.{unless};
 ghost use Rattle.xv_core.specs.State.{heads, no_content};
 
+use crate::message::{Content, Message};
 use std::alloc::Global;
 use std::collections::VecDeque;
 use xv_base::{Entry, Event, Note, Turn, UnitHead, UnitId, UnitOp, Why};
 use xv_device::MemDevice;
-
-use crate::message::{Content, Message};
 
 /// Waits for what a condition names where it holds, and else as a later one says.
 pub fn unless(holds: bool, why: Why, later: Option<Why>) -> Option<Why>

@@ -7,14 +7,13 @@ ghost use Rattle.xv_job.specs.BuiltEvents.{has_begin};
 ghost use Rattle.xv_core.specs.Seen.{view_of, IsStep};
 ghost use Rattle.xv_base.specs.declared.event.Event.TheVariants.{Apply, Ack, Credit, Switch};
 
+use crate::message::Message;
+use crate::migration::Migration;
+use crate::phase::{is_live, is_stunned};
+use crate::steps::{first_next, recorded, unless};
 use std::alloc::Global;
 use xv_base::{Event, Phase, Turn, Why};
 use xv_job::Job;
-
-use crate::migration::Migration;
-use crate::message::Message;
-use crate::phase::{is_live, is_stunned};
-use crate::steps::{first_next, recorded, unless};
 
 impl Migration {
     pub(super) fn apply_waits(&self) -> Option<Why>

@@ -7,14 +7,13 @@ ghost use Rattle.xv_model.specs.Work.{is_finished, all_ended_from};
 ghost use Rattle.xv_job.specs.BuiltEvents.{is_built_event, is_guest, has_begin};
 ghost use Rattle.xv_core.specs.Seen.{view_of, IsKept};
 
+use crate::migration::Migration;
+use crate::phase::is_live;
+use crate::sums::{mirrors_of, sum_of};
 use xv_base::{Entry, Event, GuestId, Layout, Phase, Totals};
 use xv_device::MemDevice;
 use xv_guest::History;
 use xv_job::Job;
-
-use crate::migration::Migration;
-use crate::phase::is_live;
-use crate::sums::{mirrors_of, sum_of};
 
 impl Migration {
     /// The job that it does.

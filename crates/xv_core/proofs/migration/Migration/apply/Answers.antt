@@ -55,12 +55,12 @@ invariant_of-self-2 c =
     let head = (next_message s).head in
     let journal = entered s Apply head.unit.0 head.version c.recorded.result c.reserve.new.self.items c.recorded.new.journal.items c.reserve.ensures.items (c.recorded.ensures.answer ∙ ap (λ (m : Message). note m.head.unit.0 m.head.version) message) c.recorded.ensures.entry in
     let dest : c.write.new.self ≡ after (WriteUnit head.unit.0 (next_message s).content) false c.self.inside.dest =
-        c.in-Ok.ensures.after
-        ∙ ap (λ (b : List ℕ). after (WriteUnit c.in-Some.message.head.unit.0 b) false c.self.inside.dest) c.bytes.ensures
-        ∙ ap (λ (m : Message). after (WriteUnit m.head.unit.0 m.content) false c.self.inside.dest) message in
+    c.in-Ok.ensures.after
+    ∙ ap (λ (b : List ℕ). after (WriteUnit c.in-Some.message.head.unit.0 b) false c.self.inside.dest) c.bytes.ensures
+    ∙ ap (λ (m : Message). after (WriteUnit m.head.unit.0 m.content) false c.self.inside.dest) message in
     let held : c.remove.new.self.items ≡ remove c.self.inside.held.items (next_place s) = c.in-Some.ensures.items ∙ ap (remove c.self.inside.held.items) place in
     let applied : set c.self.inside.applied.items c.in-Some.message.head.unit.0 c.in-Some.message.head.version ≡ set c.self.inside.applied.items head.unit.0 head.version =
-        ap (λ (m : Message). set c.self.inside.applied.items m.head.unit.0 m.head.version) message in
+    ap (λ (m : Message). set c.self.inside.applied.items m.head.unit.0 m.head.version) message in
     let long = c.in-Ok.ensures.sized.writes_each ∙ ap units c.self.invariant.0.dest_shape in
     (apply-kept s c.self.invariant.0 c.recorded.new.journal.items c.write.new.self c.remove.new.self.items _ goes long journal dest held applied, c.self.invariant.1)
 
