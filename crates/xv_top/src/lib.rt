@@ -1,0 +1,9 @@
+// The program as a function of its words, its input and its output.
+//
+// `top` reads all input, checks it whole, steps a migration through the script, and writes the transcript, the report
+// and the image. What it writes is a stated function of what it reads, and the migration that ran is handed out.
+#![tactic(auto)]
+
+mod top;
+
+pub use top::{Left, top};
