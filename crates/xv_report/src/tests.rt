@@ -3,14 +3,12 @@
 ghost use Rattle.std.specs.Prelude.{◌<◌};
 ghost use Rattle.xv_base.specs.Units.{units};
 
+use crate::{write_image, write_report};
 use std::alloc::Global;
 use std::test::Fail;
-
 use xv_base::{Init, Layout, Pattern, Phase, Totals, UnitId};
 use xv_device::{DevicePlan, MemDevice};
 use xv_io::{MemSink, WriteFault};
-
-use crate::{write_image, write_report};
 
 const TOTALS: Totals = Totals {
     phase: Phase::Switched,
@@ -26,7 +24,8 @@ const TOTALS: Totals = Totals {
     credit: 4,
 };
 
-const REPORT: &[u8] = b"phase switched\nowner destination\nhistory 0\nfaulted 0\njournal 21\nstun 0\ncopied 2\nrounds 1\nmessages 3\nmirrors 0\napplied 3\ncredit 4\n";
+const REPORT: &[u8] =
+    b"phase switched\nowner destination\nhistory 0\nfaulted 0\njournal 21\nstun 0\ncopied 2\nrounds 1\nmessages 3\nmirrors 0\napplied 3\ncredit 4\n";
 
 #[test]
 fn writes_report(rt: HostRuntime) -> Result<(), Fail> {
