@@ -1,6 +1,6 @@
 //! What no clause says: that the report and the image read as they should, and that a failed write is told.
 
-ghost use Rattle.std.specs.Prelude.{◌<◌};
+ghost use Rattle.std.specs.Prelude.{◌≡◌, ◌<◌, IfOk};
 ghost use Rattle.xv_base.specs.Units.{units};
 
 use crate::{write_image, write_report};
@@ -41,6 +41,7 @@ fn writes_report(rt: HostRuntime) -> Result<(), Fail> {
 /// Three pages of 16 bytes, one of them filled with a byte.
 fn pages(alloc: Global, layout: &Layout, unit: u32, byte: u8) -> Result<MemDevice, Fail>
     requires { unit < units layout.now }
+    ensures { IfOk result (λ device. device.shape ≡ layout.now) }
 {
     let init = [Init {
         unit: UnitId(unit),
