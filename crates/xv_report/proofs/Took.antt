@@ -1,12 +1,12 @@
 -- How what several writes take adds up to a text.
-use Rattle.std.proofs.Common.{◌≡◌, ℕ, zero, suc, ◌+◌, ◌-◌, ◌<◌, ◌≤◌, ◌^◌, min, List, [], ◌∷◌, ◌++◌, length, take, drop, decimal, get_or, Option, None, Some, option_map, refl, sym, ap, ◌∙◌, subst, arith, append_assoc, append-nil, length-append, zero-add, add-zero}
+use Rattle.std.proofs.Common.{◌≡◌, ℕ, zero, suc, ◌+◌, ◌-◌, ◌<◌, ◌≤◌, List, [], ◌∷◌, ◌++◌, length, take, drop, decimal, get_or, Option, None, Some, option_map, refl, sym, ap, ◌∙◌, subst, arith, append_assoc, append-nil, length-append, zero-add, add-zero}
 use Rattle.std.proofs.lemmas.List.{take-append-le, take-append-drop}
 use Rattle.std.proofs.Math.Seq.{take-add}
 use Rattle.xv_report.specs.Texts.{full_line, unit_line, side_text}
 use Rattle.xv_base.specs.Hex.{hex}
 use Rattle.xv_base.proofs.Hexes.{hex-append}
 use Rattle.std.specs.List.{flat_map, range_with_len}
-use Rattle.xv_io.specs.Io.{CountRose, TookMore, TookFront, next_count}
+use Rattle.xv_io.specs.Io.{CountRose, TookMore, TookFront}
 
 -- one call takes xs and the next ys
 pub took-both : (a b c : Option (List ℕ)) (xs ys : List ℕ) → TookMore a b xs → TookMore b c ys → TookMore a c (xs ++ ys)

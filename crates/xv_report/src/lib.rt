@@ -9,3 +9,6 @@ mod report;
 
 pub use image::write_image;
 pub use report::write_report;
+
+#[cfg(test)]
+mod tests;

@@ -1,5 +1,5 @@
 -- Scripts of the built form, read line by line.
-use Rattle.std.proofs.Common.{◌≡◌, ◌≢◌, ℕ, zero, suc, ◌+◌, ◌*◌, ◌<◌, ◌==◌, nat_eq, Bool, true, false, ◌&&◌, ◌||◌, not, List, [], ◌∷◌, ◌++◌, length, get_or, decimal, codes, if◌then◌else◌, Option, None, refl, sym, ap, ◌∙◌, arith, subst, append_assoc, append-nil}
+use Rattle.std.proofs.Common.{◌≡◌, ◌≢◌, ℕ, zero, suc, ◌+◌, ◌*◌, ◌<◌, ◌==◌, Bool, true, false, ◌&&◌, ◌||◌, not, List, [], ◌∷◌, ◌++◌, length, get_or, decimal, codes, if◌then◌else◌, Option, None, refl, sym, ap, ◌∙◌, arith, subst, append_assoc, append-nil}
 use Rattle.std.specs.Option.{MatchOption}
 use Rattle.std.specs.List.{list_all}
 use Rattle.std.proofs.lemmas.List.{append_cancel_left}
@@ -114,12 +114,15 @@ rest_cut began text rest e (Ask u ∷ ls) may p h = absurd (let bad : false ≡ 
 rest_cut began text rest e (Step f ∷ ls) may p h =
     let parts = both (may_come began f) (are_built (began || is_begin f) (events_of ls)) h.built in
     let same : f ≡ e = same_event text f e (script_text ls) rest (both _ _ parts.0).0 (both _ _ may).0 h.spells p in
-    let left : rest ≡ script_text ls = same_rest text e rest (script_text ls) p (h.spells ∙ ap (λ (x : Event). event_words x ++ 10 ∷ script_text ls) same) in
-    (ls, ap (λ (x : Event). Step x ∷ ls) same, record {
-      spells = left;
-      steps = h.steps;
-      built = ap (λ (x : Event). are_built (began || is_begin x) (events_of ls)) (sym same) ∙ parts.1;
-    })
+    let left : rest ≡ script_text ls = same_rest text e rest (script_text ls) p (h.spells ∙ ap (λ (x : Event). event_words x ++ 10 ∷ script_text ls) same) in (
+      ls,
+      ap (λ (x : Event). Step x ∷ ls) same,
+      record {
+        spells = left;
+        steps = h.steps;
+        built = ap (λ (x : Event). are_built (began || is_begin x) (events_of ls)) (sym same) ∙ parts.1;
+      },
+    )
 
 pub rest_end : (began : Bool) (text : List ℕ) (ls : List Line) → ((e : Event) (rest : List ℕ) → may_come began e ≡ true → text ≢ event_words e ++ 10 ∷ rest)
     → IsRest began text ls → ls ≡ []
@@ -144,9 +147,9 @@ pub read_more : (text : List ℕ) (lines : List Line) (began : Bool) (rest : Lis
 read_more text lines began rest e left h may p = record {
   joins = λ more k. subst (λ (ls : List Line). IsRest false text ls) (sym (append_assoc lines (Step e ∷ []) more)) (h.joins (Step e ∷ more) (rest_more began rest left e more may p k));
   only = λ all k.
-    let (ls, q, r) = h.only all k in
-    let (more, s, t) = rest_cut began rest left e ls may p r in
-    (more, q ∙ ap (λ (xs : List Line). lines ++ xs) s ∙ sym (append_assoc lines (Step e ∷ []) more), t);
+      let (ls, q, r) = h.only all k in
+      let (more, s, t) = rest_cut began rest left e ls may p r in
+      (more, q ∙ ap (λ (xs : List Line). lines ++ xs) s ∙ sym (append_assoc lines (Step e ∷ []) more), t);
 }
 
 -- nothing but the last line is left, or nothing that ends a script

@@ -12,3 +12,6 @@ mod read;
 pub use line::Line;
 pub use print::print_turn;
 pub use read::read_events;
+
+#[cfg(test)]
+mod tests;

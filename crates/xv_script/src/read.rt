@@ -8,12 +8,10 @@ ghost use Rattle.xv_job.specs.Text.{IfFault};
 ghost use Rattle.xv_script.specs.Lines.{event_words, script_text, IsBuiltScript};
 ghost use Rattle.xv_script.specs.declared.line.Line.{Line as LineRecord};
 
+use crate::line::Line;
 use std::alloc::Global;
-
 use xv_base::{Event, GuestId, LineFault, LineWhy, TextError};
 use xv_job::Job;
-
-use crate::line::Line;
 
 /// The events that are built.
 const BUILT: [Event; 13] = [

@@ -1,6 +1,4 @@
-use Rattle.std.proofs.Common.{List, ℕ, ◌-◌, ◌++◌, ◌≤◌, length, take, drop, sym, ap, ◌∙◌, subst, arith}
-use Rattle.xv_base.specs.Hex.{hex}
-use Rattle.xv_io.specs.Io.{TookMore, TookFront}
+use Rattle.std.proofs.Common.{◌∙◌, arith}
 use Rattle.xv_report.proofs.Took.{hex-took, hex-front}
 use Rattle.xv_report.proofs.image.write_hex.Goals as goal
 

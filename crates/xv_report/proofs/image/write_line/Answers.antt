@@ -1,6 +1,5 @@
-use Rattle.std.proofs.Common.{List, ℕ, ◌++◌, ◌∷◌, [], decimal, sym, ap, ◌∙◌, subst, append_assoc}
+use Rattle.std.proofs.Common.{◌++◌, ◌∷◌, [], sym, ◌∙◌, append_assoc}
 use Rattle.xv_base.specs.Hex.{hex}
-use Rattle.xv_io.specs.Io.{TookMore, TookFront}
 use Rattle.xv_report.proofs.Took.{front-first, front-then, front-last, took-both, line_parts, at_text, took-text}
 use Rattle.xv_report.proofs.image.write_line.Goals as goal
 

@@ -14,7 +14,7 @@ returns-in_err-write_unit-clause-front g c =
 pub loop-unit-preserved : goal.loop-unit-preserved
 loop-unit-preserved g c = (
   range-took (line_of c.args.side.now c.args.device.now.contents) _ _ _ c.loop-unit.unit c.loop-unit.invariant.0
-    (took-text _ _ _ _ (ap (λ (bytes : List ℕ). unit_line c.args.side.now c.loop-unit.unit bytes) c.content.ensures.exactly) c.in_ok-write_unit.ensures.whole),
+      (took-text _ _ _ _ (ap (λ (bytes : List ℕ). unit_line c.args.side.now c.loop-unit.unit bytes) c.content.ensures.exactly) c.in_ok-write_unit.ensures.whole),
   omega arith,
 )
 

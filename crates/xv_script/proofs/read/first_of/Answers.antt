@@ -1,4 +1,4 @@
-use Rattle.std.proofs.Common.{below_more, sym, ap, ◌∙◌, append_assoc, List, ℕ, ◌≢◌, ◌++◌, ◌∷◌, [], get_or, arith}
+use Rattle.std.proofs.Common.{below_more, ap, ◌∙◌, List, ℕ, ◌≢◌, ◌++◌, ◌∷◌, [], get_or, arith}
 use Rattle.xv_base.specs.declared.event.Event.{Event}
 use Rattle.xv_base.specs.declared.event.Event.TheVariants.{Apply}
 use Rattle.xv_script.specs.Lines.{event_words}

@@ -1,6 +1,4 @@
-use Rattle.std.proofs.Common.{Option, None, Some, ◌≡◌, ◌∙◌, sym, subst}
-use Rattle.std.specs.Option.{MatchOption}
-use Rattle.xv_script.proofs.Scripts.{none_of_built, no_other, at_none}
+use Rattle.xv_script.proofs.Scripts.{none_of_built, at_none}
 use Rattle.xv_script.proofs.read.next_event.Goals as goal
 
 pub returns-in_err-event : goal.returns-in_err-event

@@ -1,5 +1,5 @@
 use Rattle.std.proofs.Common.{sym}
-use Rattle.xv_script.proofs.Scripts.{IsRest, read_step, read_all, read_only, read_nothing}
+use Rattle.xv_script.proofs.Scripts.{read_step, read_all, read_only, read_nothing}
 use Rattle.xv_script.proofs.read.read_events.Goals as goal
 
 pub loop-event-preserved : goal.loop-event-preserved
