@@ -10,6 +10,8 @@ mod fields;
 mod job;
 mod lines;
 mod read;
+#[cfg(test)]
+mod tests;
 
 pub use job::Job;
 pub use read::{Place, read_job};
