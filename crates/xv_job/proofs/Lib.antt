@@ -2,3 +2,4 @@ pub mod Runs
 pub mod Flat
 pub mod Writes
 pub mod Whole
+pub mod Once

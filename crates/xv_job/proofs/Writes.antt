@@ -33,7 +33,7 @@ abbrev pub Only : Shape → List ℕ → UnitOp → ℕ → Type 0
 Only s rest op n = (o : UnitOp) (r : List ℕ) → IsBlockWrite s o → rest ≡ line (write_fields s o) ++ r → (op ≡ o) × (drop n rest ≡ r)
 
 -- no line of an operation begins as the end does
-differs : (rest a b : List ℕ) → rest ≡ 119 ∷ a → rest ≡ 101 ∷ b → ⊥
+pub differs : (rest a b : List ℕ) → rest ≡ 119 ∷ a → rest ≡ 101 ∷ b → ⊥
 differs rest a b e f = let h : ◌≡◌ {A = List ℕ} (119 ∷ a) (101 ∷ b) = sym e ∙ f in absurd (omega (arith, ap (λ (xs : List ℕ). get_or xs 0 0) h))
 
 step_ahead : (s : Shape) (rest end : List ℕ) (ops all : List UnitOp) (op : UnitOp) (n : ℕ) → rest ≡ line (write_fields s op) ++ drop n rest → Only s rest op n → (more : List UnitOp) → all ≡ ops ++ more → AllByRecursion (IsBlockWrite s) more → rest ≡ text_of (trace_lines s more) ++ end → (later : List UnitOp) × (all ≡ (ops ++ op ∷ []) ++ later) × AllByRecursion (IsBlockWrite s) later × (drop n rest ≡ text_of (trace_lines s later) ++ end)

@@ -8,8 +8,12 @@
 
 mod fields;
 mod job;
+mod laws;
 mod lines;
 mod read;
+#[cfg(test)]
+mod tests;
 
 pub use job::Job;
+pub use laws::texts_begin_with_one_job;
 pub use read::{Place, read_job};

@@ -4,6 +4,8 @@
 // has more operations than a whole job may have.
 #![tactic(auto)]
 
+#[cfg(test)]
+mod tests;
 mod trace;
 
 pub use trace::Trace;
