@@ -53,6 +53,8 @@ pub record IsKept (m : Seen) : Type 0 where
   pub good : IsGoodJob m.job
   pub is_run : is_run m.job m.journal ≡ true
   pub view : IsViewOf m.job (view_of m)
+  pub source_units : length m.source.contents ≡ unit_count m.job
+  pub dest_units : length m.dest.contents ≡ unit_count m.job
   pub source : (unit : ℕ) → unit < unit_count m.job → unit_content m.source.contents unit ≡ source_content m.job (view_of m) unit
   pub dest : (unit : ℕ) → unit < unit_count m.job → unit_content m.dest.contents unit ≡ dest_content m.job (view_of m) unit
   pub source_made : (unit : ℕ) → unit < unit_count m.job → number m.source.writes unit ≡ source_writes m.job (view_of m) unit

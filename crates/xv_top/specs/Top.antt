@@ -39,8 +39,18 @@ pub record HoldsAfter (job : Job) (journal : List Entry) : Type 0 where
 -- a migration has the job and the journal of a script, is what every migration keeps, and both invariants held after
 -- every line
 pub record HasRun (job : Job) (lines : List Line) (m : Seen) : Type 0 where
-  pub job : m.job ≡ job
+  pub of_job : m.job ≡ job
   pub journal : m.journal ≡ play job (events_of lines)
   pub faithful : is_faithful job m.journal ≡ true
   pub kept : IsKept m
   pub always : (n : ℕ) → HoldsAfter job (play job (take n (events_of lines)))
+
+-- where the output failed: a front of the refusal of an input that is none, or of the output of the job and the script
+pub record IsFrontOf (bytes : Option (List ℕ)) (old new : Option (List ℕ)) (job : Job) (lines : List Line) : Type 0 where
+  pub input : IfSome bytes (λ xs. IsInput xs job lines)
+  pub front : TookFront old new (output_text job lines)
+
+abbrev pub IsFrontFor : Option (List ℕ) → Option (List ℕ) → Option (List ℕ) → Type 0
+IsFrontFor bytes old new =
+    (IfSome bytes IsNoInput × TookFront old new refused_input)
+    ⊎ ((job : Job) × ((lines : List Line) × IsFrontOf bytes old new job lines))

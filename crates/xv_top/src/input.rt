@@ -5,7 +5,6 @@ ghost use Rattle.xv_io.specs.Io.{CountRose, IsAtEnd, GaveAtLeast};
 ghost use Rattle.xv_top.specs.Top.{input_limit, IsInput, IsNoInput};
 
 use std::alloc::Global;
-
 use xv_base::TextError;
 use xv_io::{ReadAll, Source, read_all};
 use xv_job::{Job, read_job};

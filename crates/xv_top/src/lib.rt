@@ -4,6 +4,9 @@
 // and the image. What it writes is a stated function of what it reads, and the migration that ran is handed out.
 #![tactic(auto)]
 
-mod top;
+mod input;
+mod output;
+mod playing;
+mod program;
 
-pub use top::{Left, top};
+pub use program::{Left, top};

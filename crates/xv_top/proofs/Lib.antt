@@ -1,0 +1,5 @@
+pub mod Plain
+pub mod Entries
+pub mod Scripts
+pub mod Played
+pub mod Inputs
