@@ -3,3 +3,6 @@ pub mod Entries
 pub mod Scripts
 pub mod Played
 pub mod Inputs
+pub mod Results
+pub mod Always
+pub mod Words

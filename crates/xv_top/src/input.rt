@@ -2,6 +2,7 @@
 
 ghost use Rattle.std.specs.Prelude.{◌≡◌, ◌≢◌, ◌≤◌, ◌+◌, ◌⊎◌, ℕ, List, length, IfSome, IfOk, OnOk, IsErrOf};
 ghost use Rattle.xv_io.specs.Io.{CountRose, IsAtEnd, GaveAtLeast};
+ghost use Rattle.xv_script.specs.Lines.{IsBuiltScript};
 ghost use Rattle.xv_top.specs.Top.{input_limit, IsInput, IsNoInput};
 
 use std::alloc::Global;
@@ -26,6 +27,7 @@ pub enum InputError {
 /// Reads a job and its script, to the end of the input.
 pub fn read_input<I: Source>(alloc: Global, input: &mut I) -> Result<(Job, Vec<Line>), InputError>
     ensures text { IfOk result (λ found. IfSome (I.left input.old) (λ bytes. IsInput bytes found.0 found.1.items)) }
+    ensures script { IfOk result (λ found. IsBuiltScript found.1.items) }
     ensures ended { OnOk result (IsAtEnd (I.left input.new)) }
     ensures refused { IsErrOf result InputError.Refused → IfSome (I.left input.old) IsNoInput }
     ensures refused_reads { IsErrOf result InputError.Refused → IsAtEnd (I.left input.new) ⊎ GaveAtLeast (input_limit + 1) (I.left input.old) (I.left input.new) }

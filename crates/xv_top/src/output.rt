@@ -2,6 +2,7 @@
 
 ghost use Rattle.std.specs.Prelude.{◌≡◌, OnOk, OnErr};
 ghost use Rattle.xv_io.specs.Io.{CountRose, TookMore, TookFront};
+ghost use Rattle.xv_core.specs.Seen.{IsKept};
 ghost use Rattle.xv_top.specs.Replay.{result_text};
 
 use xv_core::Migration;
@@ -13,14 +14,15 @@ pub fn write_result<O: Sink>(migration: &Migration, output: &mut O) -> Result<()
     ensures whole { OnOk result (TookMore (O.taken output.old) (O.taken output.new) (result_text migration.now.job migration.now.journal)) }
     ensures front { TookFront (O.taken output.old) (O.taken output.new) (result_text migration.now.job migration.now.journal) }
     ensures fault { OnErr result (CountRose (O.faults output.old) (O.faults output.new)) }
+    ensures kept { IsKept migration.now }
 {
-    write_report(&migration.totals(), output)?;
-    write_image(
-        migration.layout(),
-        migration.source(),
-        migration.dest(),
-        output,
-    )?;
+    if write_report(&migration.totals(), output).is_err() {
+        return Err(WriteFault);
+    }
+    let layout = migration.layout();
+    if write_image(layout, migration.source(), migration.dest(), output).is_err() {
+        return Err(WriteFault);
+    }
     match output.flush() {
         Ok(()) => Ok(()),
         Err(_) => Err(WriteFault),

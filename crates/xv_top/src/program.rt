@@ -118,9 +118,11 @@ fn replay<O: Sink>(
         Ok(migration) => migration,
         Err(_) => return Err(PlayError::NoMemory),
     };
-    play(alloc, &mut migration, lines, output)?;
-    match write_result(&migration, output) {
-        Ok(()) => Ok(migration),
-        Err(_) => Err(PlayError::WriteFault),
+    match play(alloc, &mut migration, lines, output) {
+        Ok(()) => match write_result(&migration, output) {
+            Ok(()) => Ok(migration),
+            Err(_) => Err(PlayError::WriteFault),
+        },
+        Err(error) => Err(error),
     }
 }

@@ -1,11 +1,9 @@
 // The program: its words, standard input and standard output, handed to the top call.
 #![tactic(auto)]
 
-use std::env;
-use std::io;
 use std::io::{BufWriter, ErrorKind};
 use std::process::ExitCode;
-
+use std::{env, io};
 use xv_base::Status;
 use xv_io::{StdSink, StdSource};
 use xv_top::{Left, top};
