@@ -10,3 +10,6 @@ mod playing;
 mod program;
 
 pub use program::{Left, top};
+
+#[cfg(test)]
+mod tests;
