@@ -3,3 +3,4 @@ pub mod Weights
 pub mod Effects
 pub mod Runs
 pub mod WorkedJobs
+pub mod Driven

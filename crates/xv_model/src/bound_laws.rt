@@ -5,9 +5,10 @@ ghost use Rattle.std.specs.List.{list_all};
 ghost use Rattle.xv_model.specs.Job.{Job, IsGoodJob};
 ghost use Rattle.xv_model.specs.View.{View, first_view};
 ghost use Rattle.xv_model.specs.Wait.{Event, fits};
-ghost use Rattle.xv_model.specs.Step.{Entry, step, turn, is_wait, run, is_run, play};
+ghost use Rattle.xv_model.specs.Step.{Entry, step, turn, is_wait, run, is_run, is_faithful, play};
+ghost use Rattle.xv_model.specs.Driver.{driven};
 ghost use Rattle.xv_model.specs.Invariant.{IsViewOf};
-ghost use Rattle.xv_model.specs.Work.{work_left, bound};
+ghost use Rattle.xv_model.specs.Work.{work_left, bound, is_finished};
 ghost use Rattle.xv_model.specs.Worked.{view_after};
 ghost use Rattle.xv_model.specs.Worked.TwoGuestsQueue.{two_guests_queue_job, two_guests_queue_events};
 ghost use Rattle.xv_model.specs.Worked.RoundsPastTheLimit.{rounds_past_the_limit_job, rounds_past_the_limit_events};
@@ -25,6 +26,16 @@ pub fn first_work()
 /// The journal of every run, of whatever events in whatever order, and the work left after it are together within the job's bound.
 pub fn runs_are_bounded()
     ensures { (job : Job) (journal : List Entry) → IsGoodJob job → list_all (λ e. fits job e.event) journal ≡ true → is_run job journal ≡ true → length journal + work_left job (run job journal) ≤ bound job }
+{}
+
+/// Every driven run ends: it is a run of the job's events, its calls fail exactly as planned, it ends finished, and its
+/// journal is within the job's bound.
+pub fn driven_runs_end()
+    ensures fitting { (job : Job) → IsGoodJob job → list_all (λ e. fits job e.event) (driven job) ≡ true }
+    ensures runs { (job : Job) → IsGoodJob job → is_run job (driven job) ≡ true }
+    ensures faithful { (job : Job) → IsGoodJob job → is_faithful job (driven job) ≡ true }
+    ensures finished { (job : Job) → IsGoodJob job → is_finished job (run job (driven job)) ≡ true }
+    ensures within { (job : Job) → IsGoodJob job → length (driven job) ≤ bound job }
 {}
 
 /// The premises hold of a migration with a queue, in job format 1: its run does ten of the work that there is at first, in eight entries.
