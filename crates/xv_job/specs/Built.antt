@@ -1,70 +1,25 @@
--- The jobs that are built so far: one disk, one guest and one stream, and the guest only writes whole blocks.
-use Rattle.std.specs.Prelude.{◌≡◌, ◌≤◌, ◌<◌, ℕ, List, [], ◌∷◌, length, Option, Some, None, get_or}
-use Rattle.xv_base.specs.declared.pattern.UnitOp.{UnitOp}
-use Rattle.xv_base.specs.declared.pattern.Init.{Init}
-use Rattle.xv_base.specs.declared.limits.Config.{Config}
-use Rattle.xv_base.specs.declared.limits.Fault.{Fault}
-use Rattle.xv_base.specs.Units.{Shape, shape_of, units, size, blocks}
-use Rattle.xv_base.specs.Layout.{IsGood}
-use Rattle.xv_model.specs.Job.{Job, guest_count, trace, operation}
+-- The jobs that are built so far: in job format 1, with one stream, regions of one block and one round, without a cancel
+-- number and planned faults, and one guest that writes blocks and reads from them.
+use Rattle.std.specs.Prelude.{◌≡◌, ◌<◌, ℕ, Bool, true, false, [], length, get_or, None}
+use Rattle.xv_trace.specs.declared.op.Op.{Op}
+use Rattle.xv_trace.specs.declared.op.Op.TheVariants.{Store, Load, Write, Fetch}
+use Rattle.xv_trace.specs.Operations.{no_op}
+use Rattle.xv_job.specs.Written.{Written, ops}
 
--- the job of these parts, whose streams carry frames
-abbrev pub job_of : Shape → Config → List Fault → List Init → List (List UnitOp) → Job
-job_of shape config faults init traces =
-    record { shape = shape; format = 1; group = 1; config = config; faults = faults; init = init; traces = traces }
+abbrev pub is_on_disk : Op → Bool
+is_on_disk (Store addr len pat) = false
+is_on_disk (Load addr len) = false
+is_on_disk (Write disk block count pat) = true
+is_on_disk (Fetch disk block offset len) = true
 
--- a pattern: from 1 to 64 bytes
-pub record IsPattern (bytes : List ℕ) : Type 0 where
-  pub some : 1 ≤ length bytes
-  pub few : length bytes ≤ 64
-  pub bytes_fit : (i : ℕ) → get_or bytes i 0 < 256
-
--- the pattern that an operation writes, none where it reads
-abbrev pub pattern_or_none : Option (List ℕ) → List ℕ
-pattern_or_none None = []
-pattern_or_none (Some pattern) = pattern
-
-abbrev pub written : UnitOp → List ℕ
-written op = pattern_or_none op.write
-
--- an operation that writes a pattern over one whole block
-pub record IsBlockWrite (shape : Shape) (op : UnitOp) : Type 0 where
-  pub block : shape.pages ≤ op.unit.0
-  pub in_range : op.unit.0 < units shape
-  pub from_start : op.offset ≡ 0
-  pub to_end : op.len ≡ size shape op.unit.0
-  pub writes : op.write ≡ Some (written op)
-  pub pattern : IsPattern (written op)
-
--- a machine of one disk, which has a block
-abbrev pub one_disk : ℕ → ℕ → ℕ → ℕ → Shape
-one_disk pages page_size blocks block_size =
-    shape_of pages page_size (record { blocks = blocks; block_size = block_size } ∷ [])
-
-pub record IsOneDisk (shape : Shape) : Type 0 where
-  pub good : IsGood shape
-  pub one : length shape.disks ≡ 1
-  pub some_blocks : 1 ≤ blocks shape.disks 0
-
--- the limits of one stream, one block in a region and one round, without a cancel number
-abbrev pub built_config : ℕ → ℕ → Config
-built_config credit outbox =
-    record { streams = 1; credit = credit; outbox = outbox; region = 1; rounds = 1; dirty = 0; cancel = None }
-
-pub record IsBuiltConfig (config : Config) : Type 0 where
-  pub built : config ≡ built_config config.credit config.outbox
-  pub credit : (1 ≤ config.credit) × (config.credit ≤ 1024)
-  pub outbox : (1 ≤ config.outbox) × (config.outbox ≤ 1024)
-
-pub record IsBuilt (job : Job) : Type 0 where
-  pub format : (job.format ≡ 1) × (job.group ≡ 1)
-  pub one_disk : length job.shape.disks ≡ 1
-  pub one_stream : job.config.streams ≡ 1
-  pub region : job.config.region ≡ 1
-  pub one_round : job.config.rounds ≡ 1
-  pub no_dirty : job.config.dirty ≡ 0
-  pub no_cancel : job.config.cancel ≡ None
-  pub no_faults : job.faults ≡ []
-  pub no_init : job.init ≡ []
-  pub one_guest : guest_count job ≡ 1
-  pub block_writes : (guest k : ℕ) → k < length (trace job guest) → IsBlockWrite job.shape (operation job guest k)
+pub record IsBuilt (w : Written) : Type 0 where
+  pub format : w.format ≡ 1
+  pub group : w.group ≡ 1
+  pub one_stream : w.config.streams ≡ 1
+  pub region : w.config.region ≡ 1
+  pub one_round : w.config.rounds ≡ 1
+  pub no_dirty : w.config.dirty ≡ 0
+  pub no_cancel : w.config.cancel ≡ None
+  pub no_faults : w.faults ≡ []
+  pub one_guest : length w.traces ≡ 1
+  pub on_disks : (guest i : ℕ) → i < length (ops w guest) → is_on_disk (get_or (ops w guest) i no_op) ≡ true

@@ -1,20 +1,20 @@
--- The events of the scripts that are built so far: those of one guest, one disk and one stream, without a queue and
--- without a cancel, where the guest acts before the copy begins.
+-- The events of the scripts that are built so far: without a queue and without a cancel, and the guest acts before the
+-- copy begins.
 use Rattle.std.specs.Prelude.{ℕ, ◌==◌, ◌&&◌, ◌||◌, not, Bool, true, false, List, [], ◌∷◌}
 use Rattle.xv_base.specs.declared.event.Event.{Event}
 use Rattle.xv_base.specs.declared.event.Event.TheVariants.{Guest, Begin, Read, Advance, Release, Round, Page, Send, Deliver, Apply, Ack, Credit, Stun, Switch, Cancel}
 use Rattle.xv_base.specs.declared.answer.Entry.{Entry}
 
 abbrev pub is_built_event : Event → Bool
-is_built_event (Guest g) = g.0 == 0
-is_built_event (Begin d) = d == 0
-is_built_event (Read d) = d == 0
-is_built_event (Advance d) = d == 0
+is_built_event (Guest g) = true
+is_built_event (Begin d) = true
+is_built_event (Read d) = true
+is_built_event (Advance d) = true
 is_built_event (Release d) = false
 is_built_event Round = true
 is_built_event Page = true
-is_built_event (Send s) = s == 0
-is_built_event (Deliver s) = s == 0
+is_built_event (Send s) = true
+is_built_event (Deliver s) = true
 is_built_event Apply = true
 is_built_event Ack = true
 is_built_event Credit = true

@@ -1,3 +1,6 @@
+pub mod Written
+pub mod Words
+pub mod Draft
+pub mod JobText
 pub mod Built
-pub mod Text
 pub mod BuiltEvents

@@ -4,8 +4,8 @@
 // has more operations than a whole job may have.
 #![tactic(auto)]
 
-#[cfg(test)]
-mod tests;
+mod op;
 mod trace;
 
-pub use trace::Trace;
+pub use op::{Op, Verb};
+pub use trace::is_load;
