@@ -1,6 +1,5 @@
 -- The lines of a script, and the lines that its events answer.
 use Rattle.std.specs.Prelude.{◌≡◌, ℕ, nat_lt, Bool, true, false, List, [], ◌∷◌, ◌++◌, codes, decimal, if◌then◌else◌}
-use Rattle.std.specs.List.{list_all}
 use Rattle.xv_base.specs.declared.event.Event.{Event}
 use Rattle.xv_base.specs.declared.event.Event.TheVariants.{Guest, Begin, Read, Advance, Release, Round, Page, Send, Deliver, Apply, Ack, Credit, Stun, Switch, Cancel}
 use Rattle.xv_base.specs.declared.answer.Note.{Note}
@@ -11,7 +10,6 @@ use Rattle.xv_base.specs.declared.answer.Why.TheVariants.{TraceEnd, InQueue, Can
 use Rattle.xv_base.specs.declared.answer.Cause.{Cause}
 use Rattle.xv_base.specs.declared.answer.Cause.TheVariants.{SourceRead, DestWrite, Flush, Put, Take, AckPut, AckTake}
 use Rattle.xv_base.specs.Hex.{hex}
-use Rattle.xv_job.specs.BuiltEvents.{are_built}
 use Rattle.xv_script.specs.declared.line.Line.{Line}
 use Rattle.xv_script.specs.declared.line.Line.TheVariants.{Step, Ask}
 
@@ -105,18 +103,8 @@ abbrev pub script_text : List Line → List ℕ
 script_text [] = codes "stop" ++ 10 ∷ []
 script_text (l ∷ ls) = line_words l ++ 10 ∷ script_text ls
 
--- whether a line is an event
-abbrev pub is_step : Line → Bool
-is_step (Step event) = true
-is_step (Ask unit) = false
-
 -- the events of a script, in order
 abbrev pub events_of : List Line → List Event
 events_of [] = []
 events_of (Step event ∷ ls) = event ∷ events_of ls
 events_of (Ask unit ∷ ls) = events_of ls
-
--- a script of the form that is built so far: events alone, and such as are built in this order
-pub record IsBuiltScript (lines : List Line) : Type 0 where
-  pub steps : list_all is_step lines ≡ true
-  pub built : are_built false (events_of lines) ≡ true

@@ -7,11 +7,9 @@
 
 mod line;
 mod print;
-mod read;
+mod word;
 
 pub use line::Line;
 pub use print::print_turn;
-pub use read::read_events;
+pub use word::Word;
 
-#[cfg(test)]
-mod tests;
