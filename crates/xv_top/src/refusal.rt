@@ -1,0 +1,47 @@
+//! The line of a refusal.
+
+ghost use Rattle.std.specs.Prelude.{◌≡◌, ◌≤◌, ◌+◌, ◌++◌, length, codes, decimal};
+ghost use Rattle.xv_top.specs.Refused.{why_words, refused_line};
+
+use xv_base::{LineBuf, LineFault, LineWhy};
+
+/// The line that refuses an input. Takes no memory.
+pub fn print_refusal(fault: LineFault) -> LineBuf
+    ensures { result ≡ refused_line fault }
+{
+    let mut line = LineBuf::new();
+    line.push_all(b"refused line ");
+    line.push_number(fault.line);
+    line.push(b' ');
+    push_why(&mut line, fault.why);
+    line.push(b'\n');
+    line
+}
+
+fn push_why(line: &mut LineBuf, why: LineWhy)
+    requires { length line.old ≤ 100 }
+    ensures exactly { line.new ≡ line.old ++ why_words why }
+    ensures few { length line.new ≤ length line.old + 20 }
+{
+    match why {
+        LineWhy::Unended => line.push_all(b"unended"),
+        LineWhy::BadWord => line.push_all(b"bad-word"),
+        LineWhy::Order => line.push_all(b"order"),
+        LineWhy::BadNumber => line.push_all(b"bad-number"),
+        LineWhy::BadHex => line.push_all(b"bad-hex"),
+        LineWhy::Limit(limit) => push_limit(line, limit),
+        LineWhy::OutOfRange => line.push_all(b"out-of-range"),
+        LineWhy::CrossesPage => line.push_all(b"crosses-page"),
+        LineWhy::TooMany => line.push_all(b"too-many"),
+        LineWhy::Unbuilt => line.push_all(b"unbuilt"),
+    }
+}
+
+fn push_limit(line: &mut LineBuf, limit: u8)
+    requires { length line.old ≤ 100 }
+    ensures exactly { line.new ≡ line.old ++ (codes "limit " ++ decimal limit) }
+    ensures few { length line.new ≤ length line.old + 16 }
+{
+    line.push_all(b"limit ");
+    line.push_number(u32::from(limit));
+}
