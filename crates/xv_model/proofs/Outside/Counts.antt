@@ -270,17 +270,17 @@ step_grows job v e flag unit inv w =
     let breaks_is : (flag && is_call (kind o)) ≡ breaks job v e flag = ap (λ (c : Call). flag && is_call c) (kind-call job v e) in
     by_cases (wait job v e flag) (breaks job v e flag) job v e unit (added (is_source_write unit) job v e flag) (added (is_dest_write unit) job v e flag) w
     (λ b.
-      let g = went job v e flag unit inv w in
-      record {
-        source_is = g.source_is ∙ ap (λ (n : ℕ). source_count job v unit + n) (sym (counts_by (is_source_write unit) o flag (is_call (kind o)) (no_source_write unit o) (breaks_is ∙ b)));
-        dest_is = g.dest_is ∙ ap (λ (n : ℕ). dest_count job v unit + n) (sym (counts_by (is_dest_write unit) o flag (is_call (kind o)) (no_dest_write unit o) (breaks_is ∙ b)));
-      })
+    let g = went job v e flag unit inv w in
+    record {
+      source_is = g.source_is ∙ ap (λ (n : ℕ). source_count job v unit + n) (sym (counts_by (is_source_write unit) o flag (is_call (kind o)) (no_source_write unit o) (breaks_is ∙ b)));
+      dest_is = g.dest_is ∙ ap (λ (n : ℕ). dest_count job v unit + n) (sym (counts_by (is_dest_write unit) o flag (is_call (kind o)) (no_dest_write unit o) (breaks_is ∙ b)));
+    })
     (λ b.
-      let g = broke job v e flag unit inv w in
-      record {
-        source_is = g.source_is ∙ ap (λ (n : ℕ). source_count job v unit + n) (sym (counts_none (is_source_write unit) o flag (is_call (kind o)) (breaks_is ∙ b)));
-        dest_is = g.dest_is ∙ ap (λ (n : ℕ). dest_count job v unit + n) (sym (counts_none (is_dest_write unit) o flag (is_call (kind o)) (breaks_is ∙ b)));
-      })
+    let g = broke job v e flag unit inv w in
+    record {
+      source_is = g.source_is ∙ ap (λ (n : ℕ). source_count job v unit + n) (sym (counts_none (is_source_write unit) o flag (is_call (kind o)) (breaks_is ∙ b)));
+      dest_is = g.dest_is ∙ ap (λ (n : ℕ). dest_count job v unit + n) (sym (counts_none (is_dest_write unit) o flag (is_call (kind o)) (breaks_is ∙ b)));
+    })
 
 -- a whole run
 none_waits : (why : Option Why) (b : Bool) (job : Job) (v : View) (e : Event) → is_wait (turn_by why b job v e) ≡ false → why ≡ None
