@@ -6,6 +6,9 @@ use Rattle.xv_model.specs.Worked.FirstPath.{first_path_job}
 use Rattle.xv_model.specs.Worked.Groups.{groups_job}
 use Rattle.xv_model.specs.Worked.Throttling.{throttling_job}
 use Rattle.xv_model.specs.Worked.CancelledWhileStunned.{cancelled_while_stunned_job}
+use Rattle.xv_model.specs.Worked.AfterTheSwitch.{after_the_switch_job}
+use Rattle.xv_model.specs.Worked.FailedDestination.{failed_destination_job}
+use Rattle.xv_model.specs.Worked.SwitchByCreditAlone.{switch_by_credit_alone_job}
 
 first_path-disk : (d : ℕ) → d < length first_path_job.shape.disks → 1 ≤ blocks first_path_job.shape.disks d
 first_path-disk zero lt = omega arith
@@ -120,6 +123,97 @@ cancelled-good = record {
   guests = (omega arith, omega arith);
   operations = omega arith;
   legal = cancelled-legal;
+  init_units = λ i lt. absurd (omega (arith, lt));
+  init_rises = λ i j lt within. absurd (omega (arith, within));
+  fault_lines = omega arith;
+  fault_numbers = refl;
+}
+
+after_the_switch-disk : (d : ℕ) → d < length after_the_switch_job.shape.disks → 1 ≤ blocks after_the_switch_job.shape.disks d
+after_the_switch-disk zero lt = omega arith
+after_the_switch-disk (suc d) lt = absurd (omega (arith, lt))
+
+after_the_switch-legal : (guest k : ℕ) → k < length (trace after_the_switch_job guest) → IsLegal after_the_switch_job.shape (operation after_the_switch_job guest k)
+after_the_switch-legal zero zero lt = record { unit_is = omega arith; some_bytes = omega arith; in_unit = omega arith; whole_block = λ writes block. (refl, refl); short_read = λ none. absurd (cc) }
+after_the_switch-legal zero (suc zero) lt = record { unit_is = omega arith; some_bytes = omega arith; in_unit = omega arith; whole_block = λ writes block. absurd (cc); short_read = λ none. omega arith }
+after_the_switch-legal zero (suc (suc zero)) lt = record { unit_is = omega arith; some_bytes = omega arith; in_unit = omega arith; whole_block = λ writes block. (refl, refl); short_read = λ none. absurd (cc) }
+after_the_switch-legal zero (suc (suc (suc zero))) lt = record { unit_is = omega arith; some_bytes = omega arith; in_unit = omega arith; whole_block = λ writes block. absurd (cc); short_read = λ none. omega arith }
+after_the_switch-legal zero (suc (suc (suc (suc k)))) lt = absurd (omega (arith, lt))
+after_the_switch-legal (suc guest) k lt = absurd (omega (arith, lt))
+
+pub after_the_switch-good : IsGoodJob after_the_switch_job
+unfolding lib.Count.ones
+after_the_switch-good = record {
+  machine = record { no_fault = refl; few_disks = omega arith };
+  some_blocks = after_the_switch-disk;
+  formats = inl (refl, refl);
+  streams = (omega arith, omega arith);
+  credit = (omega arith, omega arith);
+  outbox = (omega arith, omega arith);
+  region = (omega arith, omega arith, omega arith);
+  rounds = (omega arith, omega arith);
+  dirty = omega arith;
+  cancel = tt;
+  guests = (omega arith, omega arith);
+  operations = omega arith;
+  legal = after_the_switch-legal;
+  init_units = λ i lt. absurd (omega (arith, lt));
+  init_rises = λ i j lt within. absurd (omega (arith, within));
+  fault_lines = omega arith;
+  fault_numbers = refl;
+}
+
+failed_destination-disk : (d : ℕ) → d < length failed_destination_job.shape.disks → 1 ≤ blocks failed_destination_job.shape.disks d
+failed_destination-disk zero lt = omega arith
+failed_destination-disk (suc d) lt = absurd (omega (arith, lt))
+
+failed_destination-legal : (guest k : ℕ) → k < length (trace failed_destination_job guest) → IsLegal failed_destination_job.shape (operation failed_destination_job guest k)
+failed_destination-legal zero zero lt = record { unit_is = omega arith; some_bytes = omega arith; in_unit = omega arith; whole_block = λ writes block. (refl, refl); short_read = λ none. absurd (cc) }
+failed_destination-legal zero (suc k) lt = absurd (omega (arith, lt))
+failed_destination-legal (suc guest) k lt = absurd (omega (arith, lt))
+
+pub failed_destination-good : IsGoodJob failed_destination_job
+unfolding lib.Count.ones
+failed_destination-good = record {
+  machine = record { no_fault = refl; few_disks = omega arith };
+  some_blocks = failed_destination-disk;
+  formats = inl (refl, refl);
+  streams = (omega arith, omega arith);
+  credit = (omega arith, omega arith);
+  outbox = (omega arith, omega arith);
+  region = (omega arith, omega arith, omega arith);
+  rounds = (omega arith, omega arith);
+  dirty = omega arith;
+  cancel = tt;
+  guests = (omega arith, omega arith);
+  operations = omega arith;
+  legal = failed_destination-legal;
+  init_units = λ i lt. absurd (omega (arith, lt));
+  init_rises = λ i j lt within. absurd (omega (arith, within));
+  fault_lines = omega arith;
+  fault_numbers = refl;
+}
+
+switch_by_credit-legal : (guest k : ℕ) → k < length (trace switch_by_credit_alone_job guest) → IsLegal switch_by_credit_alone_job.shape (operation switch_by_credit_alone_job guest k)
+switch_by_credit-legal zero k lt = absurd (omega (arith, lt))
+switch_by_credit-legal (suc guest) k lt = absurd (omega (arith, lt))
+
+pub switch_by_credit-good : IsGoodJob switch_by_credit_alone_job
+unfolding lib.Count.ones
+switch_by_credit-good = record {
+  machine = record { no_fault = refl; few_disks = omega arith };
+  some_blocks = λ d lt. absurd (omega (arith, lt));
+  formats = inl (refl, refl);
+  streams = (omega arith, omega arith);
+  credit = (omega arith, omega arith);
+  outbox = (omega arith, omega arith);
+  region = (omega arith, omega arith, omega arith);
+  rounds = (omega arith, omega arith);
+  dirty = omega arith;
+  cancel = tt;
+  guests = (omega arith, omega arith);
+  operations = omega arith;
+  legal = switch_by_credit-legal;
   init_units = λ i lt. absurd (omega (arith, lt));
   init_rises = λ i j lt within. absurd (omega (arith, within));
   fault_lines = omega arith;

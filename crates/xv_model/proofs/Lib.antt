@@ -29,3 +29,4 @@ pub mod OneMore
 pub mod NeverSwitched
 pub mod GoodJobs
 pub mod Bound
+pub mod Outside

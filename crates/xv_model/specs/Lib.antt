@@ -8,6 +8,7 @@ pub mod Outstanding
 pub mod Report
 pub mod Invariant
 pub mod Contents
+pub mod Outside
 pub mod Work
 pub mod Driver
 pub mod Worked

@@ -1,17 +1,20 @@
 //! The laws of the work left, each as the contract of a function that does nothing.
 
-ghost use Rattle.std.specs.Prelude.{◌≡◌, ◌≤◌, ◌+◌, Bool, true, false, List, length};
+ghost use Rattle.std.specs.Prelude.{◌≡◌, ◌≤◌, ◌+◌, Bool, true, false, List, [], ◌∷◌, length, map};
 ghost use Rattle.std.specs.List.{list_all};
 ghost use Rattle.xv_model.specs.Job.{Job, IsGoodJob};
 ghost use Rattle.xv_model.specs.View.{View, first_view};
 ghost use Rattle.xv_model.specs.Wait.{Event, fits};
-ghost use Rattle.xv_model.specs.Step.{Entry, step, turn, is_wait, run, is_run, is_faithful, play};
+ghost use Rattle.xv_model.specs.Step.{Entry, step, turn, is_wait, is_flagged, run, is_run, is_faithful, play};
 ghost use Rattle.xv_model.specs.Driver.{driven};
 ghost use Rattle.xv_model.specs.Invariant.{IsViewOf};
 ghost use Rattle.xv_model.specs.Work.{work_left, bound, is_finished};
 ghost use Rattle.xv_model.specs.Worked.{view_after};
 ghost use Rattle.xv_model.specs.Worked.TwoGuestsQueue.{two_guests_queue_job, two_guests_queue_events};
 ghost use Rattle.xv_model.specs.Worked.RoundsPastTheLimit.{rounds_past_the_limit_job, rounds_past_the_limit_events};
+ghost use Rattle.xv_model.specs.Worked.SwitchByCreditAlone.{switch_by_credit_alone_job};
+ghost use Rattle.xv_model.specs.Worked.FailedDestination.{failed_destination_job};
+ghost use Rattle.xv_base.specs.declared.event.Event.TheVariants.{Guest, Begin, Read, Advance, Round, Page, Send, Deliver, Apply, Ack, Credit, Stun, Switch};
 
 /// Every step that does not wait lowers the work left, also where its call fails.
 pub fn every_step_lowers_the_work()
@@ -58,4 +61,21 @@ pub fn work_of_rounds_past_the_limit()
     ensures work_at_first { work_left rounds_past_the_limit_job (first_view rounds_past_the_limit_job) ≡ 34 }
     ensures work_after { work_left rounds_past_the_limit_job (view_after rounds_past_the_limit_job rounds_past_the_limit_events) ≡ 21 }
     ensures within { bound rounds_past_the_limit_job ≡ 112 }
+{}
+
+/// The driven run of a page alone ends with the switchover, after nine entries.
+pub fn driven_to_the_switchover()
+    ensures good { IsGoodJob switch_by_credit_alone_job }
+    ensures journal { map (λ e. e.event) (driven switch_by_credit_alone_job) ≡ Round ∷ Page ∷ Send 0 ∷ Deliver 0 ∷ Apply ∷ Ack ∷ Credit ∷ Stun ∷ Switch ∷ [] }
+    ensures finished { is_finished switch_by_credit_alone_job (run switch_by_credit_alone_job (driven switch_by_credit_alone_job)) ≡ true }
+    ensures within { bound switch_by_credit_alone_job ≡ 88 }
+{}
+
+/// One whose first write at the destination is to fail ends there, after ten entries.
+pub fn driven_to_a_failure()
+    ensures good { IsGoodJob failed_destination_job }
+    ensures journal { map (λ e. e.event) (driven failed_destination_job) ≡ Guest (record { 0 = 0 }) ∷ Begin 0 ∷ Read 0 ∷ Read 0 ∷ Advance 0 ∷ Send 0 ∷ Send 0 ∷ Deliver 0 ∷ Deliver 0 ∷ Apply ∷ [] }
+    ensures flags { map (λ e. is_flagged e.turn) (driven failed_destination_job) ≡ false ∷ false ∷ false ∷ false ∷ false ∷ false ∷ false ∷ false ∷ false ∷ true ∷ [] }
+    ensures finished { is_finished failed_destination_job (run failed_destination_job (driven failed_destination_job)) ≡ true }
+    ensures within { bound failed_destination_job ≡ 128 }
 {}

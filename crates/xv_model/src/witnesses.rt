@@ -1,13 +1,16 @@
 //! Worked migrations in which the premises of the laws hold and something moves, so that no law is about nothing.
 
-ghost use Rattle.std.specs.Prelude.{◌≡◌, true, false, [], ◌∷◌, length, take, replicate, Some, None};
+ghost use Rattle.std.specs.Prelude.{◌≡◌, ◌≤◌, ℕ, true, false, [], ◌∷◌, length, take, replicate, Some, None};
 ghost use Rattle.std.specs.List.{list_all};
-ghost use Rattle.xv_model.specs.Job.{IsGoodJob};
-ghost use Rattle.xv_model.specs.View.{first_view, front_group, number, is_stunned};
+ghost use Rattle.xv_model.specs.Job.{IsGoodJob, trace, unit_count};
+ghost use Rattle.xv_model.specs.Guest.{ended, content, reads, writes};
+ghost use Rattle.xv_model.specs.View.{first_view, front_group, number, is_stunned, is_switched};
 ghost use Rattle.xv_model.specs.Wait.{wait, fits, has_cancel};
 ghost use Rattle.xv_model.specs.Effect.{batch};
 ghost use Rattle.xv_model.specs.Step.{play, calls, is_run, is_faithful, NoCall, SourceRead, Put, Take, DestWrite, DestFlush, AckPut, AckTake};
-ghost use Rattle.xv_model.specs.Outstanding.{any, on_the_way, outstanding};
+ghost use Rattle.xv_model.specs.Report.{source_length};
+ghost use Rattle.xv_model.specs.Outside.{ReadSource, WriteSource, ReadDest, WriteDest, FlushDest, PutOn, TakeFrom, PutBack, TakeBack, outside, calls_made, calls_of_kind, source_writes, dest_writes};
+ghost use Rattle.xv_model.specs.Outstanding.{any, on_the_way, outstanding, is_version, is_message};
 ghost use Rattle.xv_model.specs.Contents.{first_contents, contents_after, unit_content};
 ghost use Rattle.xv_model.specs.Work.{is_finished};
 ghost use Rattle.xv_model.specs.Driver.{next_event};
@@ -17,6 +20,7 @@ ghost use Rattle.xv_model.specs.Worked.Groups.{groups_job, groups_events};
 ghost use Rattle.xv_model.specs.Worked.Throttling.{throttling_job, throttling_events};
 ghost use Rattle.xv_model.specs.Worked.CancelledWhileStunned.{cancelled_while_stunned_job, cancelled_while_stunned_events};
 ghost use Rattle.xv_model.specs.Worked.FailedDestination.{failed_destination_job, failed_destination_events};
+ghost use Rattle.xv_model.specs.Worked.AfterTheSwitch.{after_the_switch_job, after_the_switch_events};
 ghost use Rattle.xv_base.specs.declared.answer.Why.TheVariants.{CancelDue, Throttled};
 ghost use Rattle.xv_base.specs.declared.event.Event.TheVariants.{Send, Deliver, Apply, Ack, Credit, Switch, Cancel, Guest};
 
@@ -50,6 +54,22 @@ pub fn cancelled_while_stunned_is_a_good_run()
     ensures events_fit { list_all (λ e. fits cancelled_while_stunned_job e.event) (play cancelled_while_stunned_job cancelled_while_stunned_events) ≡ true }
     ensures a_run { is_run cancelled_while_stunned_job (play cancelled_while_stunned_job cancelled_while_stunned_events) ≡ true }
     ensures entries { length (play cancelled_while_stunned_job cancelled_while_stunned_events) ≡ 6 }
+{}
+
+/// So is one whose guest goes on at the destination.
+pub fn after_the_switch_is_a_good_run()
+    ensures good { IsGoodJob after_the_switch_job }
+    ensures events_fit { list_all (λ e. fits after_the_switch_job e.event) (play after_the_switch_job after_the_switch_events) ≡ true }
+    ensures a_run { is_run after_the_switch_job (play after_the_switch_job after_the_switch_events) ≡ true }
+    ensures entries { length (play after_the_switch_job after_the_switch_events) ≡ 19 }
+{}
+
+/// So is one that fails.
+pub fn failed_destination_is_a_good_run()
+    ensures good { IsGoodJob failed_destination_job }
+    ensures events_fit { list_all (λ e. fits failed_destination_job e.event) (play failed_destination_job failed_destination_events) ≡ true }
+    ensures a_run { is_run failed_destination_job (play failed_destination_job failed_destination_events) ≡ true }
+    ensures entries { length (play failed_destination_job failed_destination_events) ≡ 10 }
 {}
 
 /// Messages are outstanding, all are written, and then the switchover goes on.
@@ -96,4 +116,74 @@ pub fn cancel_is_due()
 pub fn calls_of_a_run()
     ensures calls { calls first_path_job (play first_path_job first_path_events) ≡ NoCall ∷ SourceRead ∷ NoCall ∷ NoCall ∷ SourceRead ∷ NoCall ∷ NoCall ∷ SourceRead ∷ Put 0 ∷ Put 0 ∷ Put 0 ∷ Take 0 ∷ Take 0 ∷ Take 0 ∷ DestWrite ∷ DestWrite ∷ DestWrite ∷ AckPut ∷ AckTake ∷ NoCall ∷ DestFlush ∷ [] }
     ensures faithful { is_faithful failed_destination_job (play failed_destination_job failed_destination_events) ≡ true }
+{}
+
+/// A version is outstanding, with the length of the history that it was made after, and is gone once it is written.
+pub fn a_version_is_outstanding()
+    ensures version { outstanding (view_after after_the_switch_job (take 4 after_the_switch_events)) (is_version 1 1) ≡ 1 }
+    ensures message { outstanding (view_after after_the_switch_job (take 4 after_the_switch_events)) (is_message 1 1 1) ≡ 1 }
+    ensures issued { number (view_after after_the_switch_job (take 4 after_the_switch_events)).outbox.issued 1 ≡ 1 }
+    ensures written { outstanding (view_after after_the_switch_job (take 11 after_the_switch_events)) (is_version 1 1) ≡ 0 }
+    ensures applied { number (view_after after_the_switch_job (take 11 after_the_switch_events)).hold.applied 1 ≡ 1 }
+{}
+
+/// The guest's content of a block goes from zeros over its first write to its second, each of the block's size, and
+/// what it reads grows with it.
+pub fn contents_follow_the_history()
+    ensures at_first { content after_the_switch_job (view_after after_the_switch_job after_the_switch_events).history 1 0 ≡ replicate 16 0 }
+    ensures after_one { content after_the_switch_job (view_after after_the_switch_job after_the_switch_events).history 1 1 ≡ replicate 16 90 }
+    ensures after_three { content after_the_switch_job (view_after after_the_switch_job after_the_switch_events).history 1 3 ≡ replicate 16 165 }
+    ensures before_more { content after_the_switch_job (view_after after_the_switch_job (take 1 after_the_switch_events)).history 1 1 ≡ replicate 16 90 }
+    ensures read_so_far { reads after_the_switch_job (view_after after_the_switch_job after_the_switch_events).history 2 ≡ 90 ∷ 90 ∷ [] }
+    ensures read { reads after_the_switch_job (view_after after_the_switch_job after_the_switch_events).history 4 ≡ 90 ∷ 90 ∷ 165 ∷ 165 ∷ [] }
+    ensures legal { (guest : ℕ) → ended (view_after after_the_switch_job after_the_switch_events).history guest ≤ length (trace after_the_switch_job guest) }
+{}
+
+/// After the switchover the source has what the guest left there, and the destination what it wrote since.
+pub fn sides_part_after_the_switch()
+    ensures units { unit_count after_the_switch_job ≡ 2 }
+    ensures source { unit_content (contents_after after_the_switch_job (first_view after_the_switch_job) (first_contents after_the_switch_job ((9 ∷ []) ∷ (9 ∷ []) ∷ [])) (play after_the_switch_job after_the_switch_events)).source 1 ≡ replicate 16 90 }
+    ensures dest { unit_content (contents_after after_the_switch_job (first_view after_the_switch_job) (first_contents after_the_switch_job ((9 ∷ []) ∷ (9 ∷ []) ∷ [])) (play after_the_switch_job after_the_switch_events)).dest 1 ≡ replicate 16 165 }
+    ensures at_the_switch { unit_content (contents_after after_the_switch_job (first_view after_the_switch_job) (first_contents after_the_switch_job ((9 ∷ []) ∷ (9 ∷ []) ∷ [])) (play after_the_switch_job (take 17 after_the_switch_events))).dest 1 ≡ replicate 16 90 }
+{}
+
+/// Where one unit of the destination is written, the others keep what stood there.
+pub fn unwritten_units_keep_their_contents()
+    ensures units { unit_count first_path_job ≡ 3 }
+    ensures running { is_switched (view_after first_path_job (take 15 first_path_events)).phase ≡ false }
+    ensures none_applied { number (view_after first_path_job (take 15 first_path_events)).hold.applied 2 ≡ 0 }
+    ensures stays { unit_content (contents_after first_path_job (first_view first_path_job) (first_contents first_path_job ((9 ∷ []) ∷ (9 ∷ []) ∷ (9 ∷ []) ∷ [])) (play first_path_job (take 15 first_path_events))).dest 2 ≡ 9 ∷ [] }
+    ensures applied { number (view_after first_path_job (take 15 first_path_events)).hold.applied 1 ≡ 1 }
+    ensures written { unit_content (contents_after first_path_job (first_view first_path_job) (first_contents first_path_job ((9 ∷ []) ∷ (9 ∷ []) ∷ (9 ∷ []) ∷ [])) (play first_path_job (take 15 first_path_events))).dest 1 ≡ replicate 16 0 }
+{}
+
+/// The calls of a run with their parts and streams: a guest's cover what it writes and reads, all others whole units.
+pub fn calls_are_made_on_parts()
+    ensures made { calls_made after_the_switch_job (play after_the_switch_job after_the_switch_events) ≡
+        WriteSource (record { unit = 1; offset = 0; len = 16 }) ∷ ReadSource (record { unit = 1; offset = 0; len = 16 }) ∷ ReadSource (record { unit = 0; offset = 0; len = 16 })
+        ∷ PutOn 0 ∷ PutOn 0 ∷ TakeFrom 0 ∷ TakeFrom 0 ∷ WriteDest (record { unit = 1; offset = 0; len = 16 }) ∷ WriteDest (record { unit = 0; offset = 0; len = 16 }) ∷ PutBack ∷ TakeBack ∷ FlushDest
+        ∷ ReadDest (record { unit = 1; offset = 0; len = 2 }) ∷ WriteDest (record { unit = 1; offset = 0; len = 16 }) ∷ ReadDest (record { unit = 1; offset = 14; len = 2 }) ∷ [] }
+    ensures goes_on { wait after_the_switch_job (view_after after_the_switch_job (take 19 after_the_switch_events)) (Guest (record { 0 = 0 })) false ≡ None }
+    ensures on_part { outside after_the_switch_job (view_after after_the_switch_job (take 19 after_the_switch_events)) (Guest (record { 0 = 0 })) ≡ ReadDest (record { unit = 1; offset = 14; len = 2 }) }
+{}
+
+/// A call that failed is numbered, and is not among those made; the write that waited is made on the source after it.
+pub fn a_failed_call_is_not_made()
+    ensures made { calls_made failed_destination_job (play failed_destination_job failed_destination_events) ≡
+        ReadSource (record { unit = 1; offset = 0; len = 16 }) ∷ ReadSource (record { unit = 2; offset = 0; len = 16 }) ∷ PutOn 0 ∷ TakeFrom 0 ∷ WriteSource (record { unit = 3; offset = 0; len = 16 }) ∷ [] }
+    ensures numbered { calls_of_kind failed_destination_job (play failed_destination_job failed_destination_events) DestWrite ≡ 1 }
+    ensures not_written { dest_writes failed_destination_job (play failed_destination_job failed_destination_events) 1 ≡ 0 }
+    ensures written { source_writes failed_destination_job (play failed_destination_job failed_destination_events) 3 ≡ 1 }
+{}
+
+/// A block is written on both sides: once on the source before the switchover; on the destination once by its copy,
+/// and once by the guest afterwards.
+pub fn both_sides_are_written()
+    ensures source { source_writes after_the_switch_job (play after_the_switch_job after_the_switch_events) 1 ≡ 1 }
+    ensures until_the_switch { writes after_the_switch_job (view_after after_the_switch_job after_the_switch_events).history 1 (source_length (view_after after_the_switch_job after_the_switch_events)) ≡ 1 }
+    ensures dest { dest_writes after_the_switch_job (play after_the_switch_job after_the_switch_events) 1 ≡ 2 }
+    ensures applied { number (view_after after_the_switch_job after_the_switch_events).hold.applied 1 ≡ 1 }
+    ensures in_all { writes after_the_switch_job (view_after after_the_switch_job after_the_switch_events).history 1 4 ≡ 2 }
+    ensures page { source_writes after_the_switch_job (play after_the_switch_job after_the_switch_events) 0 ≡ 0 }
+    ensures page_at_dest { dest_writes after_the_switch_job (play after_the_switch_job after_the_switch_events) 0 ≡ 1 }
 {}

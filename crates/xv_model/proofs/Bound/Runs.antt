@@ -124,7 +124,7 @@ first-within job good =
     omega (arith, operations, dirty, first-copies job.shape.disks, members-none pages, no_streams job.config.streams, good.rounds.1)
 
 -- an entry that agrees with an answer has none that waits
-agrees-goes : (s t : Turn) → same_turn s t ≡ true → is_wait t ≡ false
+pub agrees-goes : (s t : Turn) → same_turn s t ≡ true → is_wait t ≡ false
 agrees-goes s (Done n) h = refl
 agrees-goes s Queued h = refl
 agrees-goes s Faulted h = refl
