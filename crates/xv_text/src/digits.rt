@@ -2,6 +2,8 @@
 
 ghost use Rattle.std.specs.Prelude.{◌≡◌, ◌<◌, ◌≤◌, ◌*◌, ◌/◌, ◌%◌, true, false, length, take, IfSome, IfNone, if◌then◌else◌, MatchBool};
 ghost use Rattle.std.specs.List.{list_all};
+ghost use Rattle.std.specs.Char.{is_ascii_digit};
+ghost use Rattle.std.specs.Str.Parse.{digits_value};
 ghost use Rattle.xv_text.specs.Fields.{is_number, number, is_hex_digit, hex_value, is_hex, hex_bytes};
 
 use xv_base::Pattern;
@@ -18,14 +20,27 @@ pub(crate) fn number_of(field: &[u8]) -> Option<u32>
     if field[0] == b'0' && field.len() > 1 {
         return None;
     }
+    match digits_value(field) {
+        Some(value) => u32::try_from(value).ok(),
+        None => None,
+    }
+}
+
+/// The number that at most ten digits stand for; none where one is no decimal digit.
+fn digits_value(digits: &[u8]) -> Option<u64>
+    requires { length digits.now ≤ 10 }
+    ensures digits { IfSome result (λ n. list_all is_ascii_digit digits.now ≡ true) }
+    ensures value { IfSome result (λ n. n ≡ digits_value 10 digits.now) }
+    ensures none { IfNone result (list_all is_ascii_digit digits.now ≡ false) }
+{
     let mut value = 0;
-    for digit in field {
+    for digit in digits {
         if !digit.is_ascii_digit() {
             return None;
         }
         value = value * 10 + u64::from(*digit - b'0');
     }
-    u32::try_from(value).ok()
+    Some(value)
 }
 
 /// The bytes that a field says; none where it is not from 1 to 64 bytes in hexadecimal digits.
