@@ -1,0 +1,4 @@
+pub mod Cuts
+pub mod Prints
+pub mod Numbers
+pub mod HexFields

@@ -3,6 +3,13 @@
 
 #![tactic(auto)]
 
+mod digits;
+mod fields;
+mod lines;
+mod print;
 mod row;
 
-pub use row::Kind;
+pub use fields::{Fields, first_field};
+pub use lines::next_line;
+pub use print::{push_line, push_line_with};
+pub use row::{Kind, Row, read_fields};

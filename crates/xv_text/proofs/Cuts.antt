@@ -1,0 +1,147 @@
+-- A text is cut into lines, and a line into fields, at the first byte of a kind.
+use Rattle.std.proofs.Common.{◌≡◌, ◌==◌, ◌<◌, ◌≤◌, ℕ, zero, suc, ◌+◌, ◌-◌, Bool, true, false, not, List, [], ◌∷◌, ◌++◌, length, take, drop, Option, Some, None, position, refl, sym, ap, ◌∙◌, arith, nat_lt, if◌then◌else◌, add-one, inl, inr, rules, IfSome, IfNone, IsTrue}
+use Rattle.std.specs.List.{list_any, position_or_len}
+use Rattle.std.proofs.lemmas.Bool.{cases_Bool, or_parts, or_from, or_left, or_right, eq-eqb, eqb-true, cases_lt, lt-ltb, le-ltb}
+use Rattle.std.proofs.lemmas.Bool.Decides.{nat_tests}
+use Rattle.std.proofs.lemmas.List.{length-append}
+use Rattle.std.proofs.lemmas.Slice.{between_to_end}
+use Rattle.xv_text.specs.Lines.{before_first, whole_lines, has_rest, fields}
+use Rattle.xv_text.specs.Fields.{is_empty}
+use Rattle.xv_text.specs.Cuts.{Lacks, IsCut}
+
+-- the first place of a byte cuts there
+take_more_front : (n b : ℕ) (text : List ℕ) → take (1 + n) (b ∷ text) ≡ b ∷ take n text
+take_more_front n b text = let e : 1 + n ≡ suc n = omega arith in rw e refl
+
+drop_more_front : (n b : ℕ) (text : List ℕ) → drop (1 + n + 1) (b ∷ text) ≡ drop (n + 1) text
+drop_more_front n b text = let e : 1 + n + 1 ≡ suc (n + 1) = omega arith in rw e refl
+
+one_more_front : (byte b : ℕ) (text front back : List ℕ) → (b == byte) ≡ false → IsCut byte text front back → IsCut byte (b ∷ text) (b ∷ front) back
+one_more_front byte b text front back other cut = record {
+  whole = ap (λ xs. b ∷ xs) cut.whole;
+  first = or_from (b == byte) (list_any (λ x. x == byte) front) other cut.first;
+}
+
+not_here : (byte b : ℕ) (text : List ℕ) → (b == byte) ≡ false → position_or_len (λ x. x == byte) (b ∷ text) ≡ 1 + position_or_len (λ x. x == byte) text
+not_here byte b text other = rw other refl
+
+cut_here : (byte : ℕ) (text : List ℕ) → position_or_len (λ b. b == byte) text < length text
+    → IsCut byte text (take (position_or_len (λ b. b == byte) text) text) (drop (position_or_len (λ b. b == byte) text + 1) text)
+cut_here byte [] h = absurd (omega arith)
+cut_here byte (b ∷ text) h = elim (cases_Bool (b == byte)) [
+  | inl same ↦ rw same (record { whole = ap (λ x. x ∷ text) (eqb-true b byte same); first = refl })
+  | inr other ↦
+      let below : position_or_len (λ x. x == byte) text < length text = omega (arith, not_here byte b text other) in
+      rw (other, take_more_front, drop_more_front) (one_more_front byte b text _ _ other (cut_here byte text below))
+]
+
+cut_nowhere : (byte : ℕ) (text : List ℕ) → length text ≤ position_or_len (λ b. b == byte) text → Lacks byte text
+cut_nowhere byte [] h = refl
+cut_nowhere byte (b ∷ text) h = elim (cases_Bool (b == byte)) [
+  | inl same ↦ absurd (let none : position_or_len (λ x. x == byte) (b ∷ text) ≡ 0 = rw same refl in omega arith)
+  | inr other ↦ or_from (b == byte) (list_any (λ x. x == byte) text) other (cut_nowhere byte text (omega (arith, not_here byte b text other)))
+]
+
+cut_place : (byte : ℕ) (text : List ℕ) (n : ℕ) → Some n ≡ position (λ b. b == byte) text → IsCut byte text (take n text) (drop (n + 1) text)
+cut_place byte text n e = elim (cases_lt (position_or_len (λ b. b == byte) text) (length text)) [
+  | inl below ↦
+      let f : Some n ≡ Some (position_or_len (λ b. b == byte) text) = rw lt-ltb at e in
+      let same : n ≡ position_or_len (λ b. b == byte) text = cc in
+      rw same (cut_here byte text below)
+  | inr past ↦ let f : Some n ≡ None = rw le-ltb at e in absurd (cc)
+]
+
+pub cut_at_place : (byte : ℕ) (text : List ℕ) (n : ℕ) → Some n ≡ position (λ b. b == byte) text → IsCut byte text (take n text) (take (length text - (n + 1)) (drop (n + 1) text))
+cut_at_place byte text n e = rw (between_to_end text (n + 1) (length text) (omega arith)) (cut_place byte text n e)
+
+pub cut_at_none : (byte : ℕ) (text : List ℕ) → None ≡ position (λ b. b == byte) text → Lacks byte text
+cut_at_none byte text e = elim (cases_lt (position_or_len (λ b. b == byte) text) (length text)) [
+  | inl below ↦ let f : None ≡ Some (position_or_len (λ b. b == byte) text) = rw lt-ltb at e in absurd (cc)
+  | inr past ↦ cut_nowhere byte text past
+]
+
+-- the lines of a text, and whether bytes stand behind them, from its first line feed on
+whole_lines-front : (front back : List ℕ) → Lacks 10 front → whole_lines (front ++ 10 ∷ back) ≡ front ∷ whole_lines back
+whole_lines-front [] back h = refl
+whole_lines-front (b ∷ front) back h =
+    let a = or_parts (b == 10) (list_any (λ x. x == 10) front) h in
+    let other : (b == 10) ≡ false = a.0 in
+    rw other (ap (before_first b) (whole_lines-front front back a.1))
+
+pub whole_lines-cut : (text front back : List ℕ) → IsCut 10 text front back → whole_lines text ≡ front ∷ whole_lines back
+whole_lines-cut text front back cut = ap whole_lines cut.whole ∙ whole_lines-front front back cut.first
+
+pub whole_lines-none : (text : List ℕ) → Lacks 10 text → whole_lines text ≡ []
+whole_lines-none [] h = refl
+whole_lines-none (b ∷ text) h =
+    let a = or_parts (b == 10) (list_any (λ x. x == 10) text) h in
+    let other : (b == 10) ≡ false = a.0 in
+    rw other (ap (before_first b) (whole_lines-none text a.1))
+
+there_is : (byte : ℕ) (front back : List ℕ) → list_any (λ x. x == byte) (front ++ byte ∷ back) ≡ true
+there_is byte [] back = or_left (byte == byte) _ (eq-eqb byte byte refl)
+there_is byte (b ∷ front) back = or_right (b == byte) _ (there_is byte front back)
+
+has_rest-front : (front back : List ℕ) → has_rest (front ++ 10 ∷ back) ≡ has_rest back
+has_rest-front [] back = refl
+has_rest-front (b ∷ front) back =
+    let there : list_any (λ x. x == 10) (b ∷ (front ++ 10 ∷ back)) ≡ true = or_right (b == 10) _ (there_is 10 front back) in
+    rw there (has_rest-front front back)
+
+pub has_rest-cut : (text front back : List ℕ) → IsCut 10 text front back → has_rest text ≡ has_rest back
+has_rest-cut text front back cut = ap has_rest cut.whole ∙ has_rest-front front back
+
+pub has_rest-none : (text : List ℕ) → Lacks 10 text → has_rest text ≡ not (is_empty text)
+has_rest-none [] h = refl
+has_rest-none (b ∷ text) h = rw h refl
+
+-- the fields of a line from its first space on
+fields-front : (front back : List ℕ) → Lacks 32 front → fields (front ++ 32 ∷ back) ≡ front ∷ fields back
+fields-front [] back h = refl
+fields-front (b ∷ front) back h =
+    let a = or_parts (b == 32) (list_any (λ x. x == 32) front) h in
+    let other : (b == 32) ≡ false = a.0 in
+    rw other (ap (before_first b) (fields-front front back a.1))
+
+pub fields-cut : (text front back : List ℕ) → IsCut 32 text front back → fields text ≡ front ∷ fields back
+fields-cut text front back cut = ap fields cut.whole ∙ fields-front front back cut.first
+
+pub fields-none : (text : List ℕ) → Lacks 32 text → fields text ≡ text ∷ []
+fields-none [] h = refl
+fields-none (b ∷ text) h =
+    let a = or_parts (b == 32) (list_any (λ x. x == 32) text) h in
+    let other : (b == 32) ≡ false = a.0 in
+    rw other (ap (before_first b) (fields-none text a.1))
+
+-- what stands behind a line is shorter than the text
+pub cut_shorter : (byte : ℕ) (text front back : List ℕ) → IsCut byte text front back → length back < length text
+cut_shorter byte text front back cut = omega (arith, ap length cut.whole, length-append front (byte ∷ back))
+
+-- there is a field in every line
+length-before_first : (b : ℕ) (items : List (List ℕ)) → length (before_first b items) ≡ length items
+length-before_first b [] = refl
+length-before_first b (item ∷ items) = refl
+
+pub some_field : (text : List ℕ) → 0 < length (fields text)
+some_field [] = omega arith
+some_field (b ∷ text) = elim (cases_Bool (b == 32)) [
+  | inl space ↦ rw space (omega arith)
+  | inr other ↦ rw (other, length-before_first) (some_field text)
+]
+
+pub no_line_without : (text : List ℕ) → fields text ≡ [] → ⊥
+no_line_without text h = omega (arith, some_field text, ap length h)
+
+-- what follows from a fact on what is there, or from there being nothing
+pub if_some : {A : Type 0} (P Q : A → Type 0) (r : Option A) → IfSome r P → ((x : A) → P x → Q x) → IfSome r Q
+if_some P Q None h k = tt
+if_some P Q (Some x) h k = k x h
+
+pub if_none : {A : Type 0} (P Q : Type 0) (r : Option A) → IfNone r P → (P → Q) → IfNone r Q
+if_none P Q None h k = k h
+if_none P Q (Some x) h k = tt
+
+-- fields that have ended are none
+pub ended : (b : Bool) (bytes : List ℕ) (view : List (List ℕ)) → (if b then [] else fields bytes) ≡ view → (IsTrue b → view ≡ []) × (view ≡ [] → IsTrue b)
+ended true bytes view e = (λ _. sym e, λ _. refl)
+ended false bytes view e = (λ h. absurd (cc), λ h. absurd (no_line_without bytes (e ∙ h)))

@@ -1,0 +1,90 @@
+-- Fields that say bytes: two hexadecimal digits a byte.
+use Rattle.std.proofs.Common.{◌≡◌, ◌==◌, ℕ, zero, suc, ◌+◌, ◌-◌, ◌*◌, ◌/◌, ◌%◌, ◌^◌, ◌<◌, ◌≤◌, Bool, true, false, ◌&&◌, ◌||◌, not, List, [], ◌∷◌, ◌++◌, length, take, set, get_or, nat_lt, nat_le, if◌then◌else◌, refl, sym, ap, ◌∙◌, arith, rules, inl, inr, ◌⊎◌, append_assoc}
+use Rattle.std.specs.Char.{is_ascii_digit}
+use Rattle.std.specs.List.{list_all}
+use Rattle.std.proofs.lemmas.Bool.{and_parts, and_from, ltb-true, lt-ltb, eqb-true, eq-eqb, leb-true, le-leb, cases_Bool, false_from_ne_true}
+use Rattle.std.proofs.lemmas.Bool.Decides.{nat_tests}
+use Rattle.std.proofs.lemmas.List.{take_more, take_more_set, length-append, length-take-le}
+use Rattle.xv_base.specs.Hex.{hex, hex_digit}
+use Rattle.xv_text.specs.Fields.{is_hex, is_hex_digit, hex_value, hex_bytes, IsPattern}
+use Rattle.xv_text.proofs.Numbers.{all_four, from_four, passes_at, all_more}
+
+-- what digits stand for
+pub hex_value_small : (d : ℕ) → is_hex_digit d ≡ true → hex_value d < 16
+hex_value_small d h = grind (arith, nat_tests)
+
+pub hex_digit_of_value : (d : ℕ) → is_hex_digit d ≡ true → hex_digit (hex_value d) ≡ d
+hex_digit_of_value d h = grind (arith, nat_tests)
+
+pub hex_digit_passes : (n : ℕ) → n < 16 → is_hex_digit (hex_digit n) ≡ true
+hex_digit_passes n h = grind (arith, nat_tests)
+
+pub value_of_hex_digit : (n : ℕ) → n < 16 → hex_value (hex_digit n) ≡ n
+value_of_hex_digit n h = grind (arith, nat_tests)
+
+-- the parts of the test
+pub record IsHex (field : List ℕ) : Type 0 where
+  pub digits : list_all is_hex_digit field ≡ true
+  pub even : length field % 2 ≡ 0
+  pub some : 2 ≤ length field
+  pub few : length field ≤ 128
+
+pub hex_parts : (field : List ℕ) → is_hex field ≡ true → IsHex field
+hex_parts field h =
+    let p = all_four (list_all is_hex_digit field) (length field % 2 == 0) (nat_le 2 (length field)) (nat_le (length field) 128) h in
+    record { digits = p.0; even = eqb-true _ _ p.1; some = leb-true _ _ p.2; few = leb-true _ _ p.3 }
+
+pub hex_from : (field : List ℕ) → IsHex field → is_hex field ≡ true
+hex_from field n = from_four _ _ _ _ n.digits (eq-eqb _ _ n.even) (le-leb _ _ n.some) (le-leb _ _ n.few)
+
+pub no_hex : (field : List ℕ) → (IsHex field → ⊥) → is_hex field ≡ false
+no_hex field h = false_from_ne_true _ (λ e. h (hex_parts field e))
+
+-- two digits more
+hex_bytes-push : (xs : List ℕ) (high low : ℕ) → length xs % 2 ≡ 0 → hex_bytes (xs ++ high ∷ low ∷ []) ≡ hex_bytes xs ++ (16 * hex_value high + hex_value low) ∷ []
+hex_bytes-push [] high low even = refl
+hex_bytes-push (a ∷ []) high low even = absurd (omega arith)
+hex_bytes-push (a ∷ b ∷ xs) high low even =
+    ap (λ ys. (16 * hex_value a + hex_value b) ∷ ys) (hex_bytes-push xs high low (omega arith))
+
+take_two : (xs : List ℕ) (i : ℕ) → 2 * i + 1 < length xs → take (2 * (i + 1)) xs ≡ take (2 * i) xs ++ get_or xs (2 * i) 0 ∷ get_or xs (2 * i + 1) 0 ∷ []
+take_two xs i h =
+    let n : 2 * (i + 1) ≡ (2 * i + 1) + 1 = omega arith in
+    ap (λ (k : ℕ). take k xs) n ∙ take_more xs (2 * i + 1) 0 h ∙ ap (λ (ys : List ℕ). ys ++ get_or xs (2 * i + 1) 0 ∷ []) (take_more xs (2 * i) 0 (omega arith)) ∙ append_assoc (take (2 * i) xs) (get_or xs (2 * i) 0 ∷ []) (get_or xs (2 * i + 1) 0 ∷ [])
+
+length-take_two : (xs : List ℕ) (i : ℕ) → 2 * i ≤ length xs → length (take (2 * i) xs) % 2 ≡ 0
+length-take_two xs i h = rw (length-take-le (2 * i) xs h) (omega arith)
+
+-- the bytes decoded so far, with one more
+pub decoded : (into digits : List ℕ) (i high low : ℕ) → i < length into → 2 * i + 1 < length digits
+    → high ≡ hex_value (get_or digits (2 * i) 0) → low ≡ hex_value (get_or digits (2 * i + 1) 0)
+    → take i into ≡ hex_bytes (take (2 * i) digits) → take (i + 1) (set into i (16 * high + low)) ≡ hex_bytes (take (2 * (i + 1)) digits)
+decoded into digits i high low fits more e f so =
+    take_more_set into i (16 * high + low) fits
+    ∙ ap (λ xs. xs ++ (16 * high + low) ∷ []) so
+    ∙ ap (λ x. hex_bytes (take (2 * i) digits) ++ (16 * x + low) ∷ []) e
+    ∙ ap (λ x. hex_bytes (take (2 * i) digits) ++ (16 * hex_value (get_or digits (2 * i) 0) + x) ∷ []) f
+    ∙ sym (hex_bytes-push (take (2 * i) digits) _ _ (length-take_two digits i (omega arith)))
+    ∙ ap hex_bytes (sym (take_two digits i more))
+
+pub all_two_more : (p : ℕ → Bool) (xs : List ℕ) (i : ℕ) → 2 * i + 1 < length xs → list_all p (take (2 * i) xs) ≡ true → p (get_or xs (2 * i) 0) ≡ true → p (get_or xs (2 * i + 1) 0) ≡ true → list_all p (take (2 * (i + 1)) xs) ≡ true
+all_two_more p xs i lt h a b =
+    let n : 2 * (i + 1) ≡ (2 * i + 1) + 1 = omega arith in
+    ap (λ (k : ℕ). list_all p (take k xs)) n ∙ all_more p xs (2 * i + 1) lt (all_more p xs (2 * i) (omega arith) h a) b
+
+-- a digit's value is at most 15, and another byte has none
+chosen : (t : Bool) (x y v : ℕ) → v ≡ (if t then x else y) → ((t ≡ true) × (v ≡ x)) ⊎ ((t ≡ false) × (v ≡ y))
+chosen true x y v e = inl (refl, e)
+chosen false x y v e = inr (refl, e)
+
+pub digit_tells : (b v : ℕ) → v ≡ (if is_hex_digit b then hex_value b else 255) → v ≤ 15 → (is_hex_digit b ≡ true) × (v ≡ hex_value b)
+digit_tells b v e h = elim (chosen (is_hex_digit b) (hex_value b) 255 v e) [
+  | inl t ↦ t
+  | inr f ↦ absurd (omega (arith, f.1))
+]
+
+pub no_digit_tells : (b v : ℕ) → v ≡ (if is_hex_digit b then hex_value b else 255) → 15 < v → is_hex_digit b ≡ false
+no_digit_tells b v e h = elim (chosen (is_hex_digit b) (hex_value b) 255 v e) [
+  | inl t ↦ absurd (omega (arith, t.1, hex_value_small b t.0))
+  | inr f ↦ f.0
+]
