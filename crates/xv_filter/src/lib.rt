@@ -1,0 +1,15 @@
+// The filter of a guest's block writes: on which side of the copy a block stands, and the queue in which writes to
+// the blocks that are being copied wait.
+//
+// Contracts see a `Queue` as the list of the writes that wait, in order of joining. The layer above may rely on
+// this: each block stands on exactly one side; and no guest waits in a queue twice, so that the places for sixteen
+// guests, which a queue has from the start, are enough.
+#![tactic(auto)]
+
+mod queue;
+mod side;
+#[cfg(test)]
+mod tests;
+
+pub use queue::Queue;
+pub use side::place;
