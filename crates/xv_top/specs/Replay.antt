@@ -10,16 +10,16 @@ use Rattle.xv_model.specs.Effect.{Turn}
 use Rattle.xv_model.specs.Step.{Call, Entry, run, play, step, turn, flag, call_of, is_faithful}
 use Rattle.xv_model.specs.Report.{totals, source_content, dest_content}
 use Rattle.xv_model.specs.Invariant.{IsViewOf}
-use Rattle.xv_job.specs.Built.{IsBuilt}
-use Rattle.xv_job.specs.Text.{job_text}
-use Rattle.xv_script.specs.Lines.{turn_line, script_text, IsBuiltScript, events_of}
+use Rattle.xv_job.specs.Written.{Written}
+use Rattle.xv_job.specs.JobText.{job_text}
+use Rattle.xv_script.specs.Lines.{turn_line, script_text, events_of}
 use Rattle.xv_script.specs.declared.line.Line.{Line}
 use Rattle.xv_report.specs.Texts.{report_text, image_text}
 use Rattle.xv_core.specs.Seen.{Seen, view_of, IsKept}
 
--- the input: a job of the built form, and a script of it
-abbrev pub input_text : Job → List Line → List ℕ
-input_text job lines = job_text job ++ script_text lines
+-- the input: a job, and a script
+abbrev pub input_text : Written → List Line → List ℕ
+input_text written lines = job_text written ++ script_text lines
 
 -- the transcript of these events from a view on: each with its answer, and what it read
 abbrev pub transcript_from : Job → View → List Call → List Event → List ℕ
@@ -44,9 +44,3 @@ result_text job journal = report_text (totals job (run job journal) (length jour
 
 abbrev pub output_text : Job → List Line → List ℕ
 output_text job lines = transcript job (events_of lines) ++ result_text job (play job (events_of lines))
-
-abbrev pub refused_words : List ℕ
-refused_words = codes "refused words" ++ 10 ∷ []
-
-abbrev pub refused_input : List ℕ
-refused_input = codes "refused line 0 unbuilt" ++ 10 ∷ []

@@ -1,35 +1,38 @@
 -- What the answers of the top call mean.
-use Rattle.std.specs.Prelude.{◌≡◌, ◌≢◌, ◌≤◌, ◌+◌, ◌⊎◌, ℕ, true, List, [], ◌∷◌, length, map, take, codes, Option, IfSome, String, string_bytes}
+use Rattle.std.specs.Prelude.{◌≡◌, ◌⊎◌, ℕ, true, false, List, [], ◌∷◌, take, codes, Option, Some, None, IfSome}
+use Rattle.std.specs.List.{list_all}
 use Rattle.xv_io.specs.Io.{IsAtEnd, GaveAtLeast, TookMore, TookFront}
-use Rattle.xv_model.specs.Job.{Job, IsGoodJob}
+use Rattle.xv_base.specs.declared.text.LineFault.{LineFault}
+use Rattle.xv_model.specs.Job.{Job}
+use Rattle.xv_model.specs.Wait.{fits}
 use Rattle.xv_model.specs.Step.{Entry, run, play, is_faithful}
 use Rattle.xv_model.specs.Invariant.{IsViewOf}
 use Rattle.xv_model.specs.Contents.{Contents, HoldsContents}
+use Rattle.xv_job.specs.Written.{Written, job_of, IsGoodWritten}
 use Rattle.xv_job.specs.Built.{IsBuilt}
-use Rattle.xv_script.specs.Lines.{IsBuiltScript, events_of}
+use Rattle.xv_job.specs.BuiltEvents.{are_built}
+use Rattle.xv_script.specs.Lines.{events_of}
 use Rattle.xv_script.specs.declared.line.Line.{Line}
 use Rattle.xv_core.specs.Seen.{Seen, IsKept}
-use Rattle.xv_top.specs.Replay.{input_text, output_text, refused_words, refused_input}
-
--- how many bytes an input has at most
-abbrev pub input_limit : ℕ
-input_limit = 67108864
+use Rattle.xv_top.specs.Replay.{input_text, output_text}
+use Rattle.xv_top.specs.Refused.{input_fault, refused_line}
 
 -- the words are the one word `replay`
 abbrev pub IsReplay : List (List ℕ) → Type 0
 IsReplay words = words ≡ codes "replay" ∷ []
 
--- these bytes are the text of this job and this script, and both are built
-pub record IsInput (bytes : List ℕ) (job : Job) (lines : List Line) : Type 0 where
-  pub good : IsGoodJob job
-  pub built : IsBuilt job
-  pub script : IsBuiltScript lines
-  pub within : length bytes ≤ input_limit
-  pub text : bytes ≡ input_text job lines
+-- these bytes are refused nowhere, and are the text of this job and this script
+pub record IsInput (bytes : List ℕ) (written : Written) (lines : List Line) : Type 0 where
+  pub no_fault : input_fault bytes ≡ None
+  pub good : IsGoodWritten written
+  pub built : IsBuilt written
+  pub script_built : are_built false (events_of lines) ≡ true
+  pub fits : list_all (λ e. fits (job_of written) e) (events_of lines) ≡ true
+  pub text : bytes ≡ input_text written lines
 
--- no job and script have these bytes as their text
-abbrev pub IsNoInput : List ℕ → Type 0
-IsNoInput bytes = (job : Job) (lines : List Line) → ¬ IsInput bytes job lines
+-- these bytes are refused so
+abbrev pub IsRefused : List ℕ → LineFault → Type 0
+IsRefused bytes fault = input_fault bytes ≡ Some fault
 
 -- both invariants hold in the view after these entries
 pub record HoldsAfter (job : Job) (journal : List Entry) : Type 0 where
@@ -38,19 +41,24 @@ pub record HoldsAfter (job : Job) (journal : List Entry) : Type 0 where
 
 -- a migration has the job and the journal of a script, is what every migration keeps, and both invariants held after
 -- every line
-pub record HasRun (job : Job) (lines : List Line) (m : Seen) : Type 0 where
-  pub of_job : m.job ≡ job
-  pub journal : m.journal ≡ play job (events_of lines)
-  pub faithful : is_faithful job m.journal ≡ true
+pub record HasRun (written : Written) (lines : List Line) (m : Seen) : Type 0 where
+  pub of_job : m.job ≡ written
+  pub journal : m.journal ≡ play (job_of written) (events_of lines)
+  pub faithful : is_faithful (job_of written) m.journal ≡ true
   pub kept : IsKept m
-  pub always : (n : ℕ) → HoldsAfter job (play job (take n (events_of lines)))
+  pub always : (n : ℕ) → HoldsAfter (job_of written) (play (job_of written) (take n (events_of lines)))
 
--- where the output failed: a front of the refusal of an input that is none, or of the output of the job and the script
-pub record IsFrontOf (bytes : Option (List ℕ)) (old new : Option (List ℕ)) (job : Job) (lines : List Line) : Type 0 where
-  pub input : IfSome bytes (λ xs. IsInput xs job lines)
-  pub front : TookFront old new (output_text job lines)
+-- where the output failed: a front of the refusal of an input that is refused, or of the output of the job and the
+-- script
+pub record IsFrontOf (bytes : Option (List ℕ)) (old new : Option (List ℕ)) (written : Written) (lines : List Line) : Type 0 where
+  pub input : IfSome bytes (λ xs. IsInput xs written lines)
+  pub front : TookFront old new (output_text (job_of written) lines)
+
+pub record IsFrontOfRefusal (bytes : Option (List ℕ)) (old new : Option (List ℕ)) (fault : LineFault) : Type 0 where
+  pub refused : IfSome bytes (λ xs. IsRefused xs fault)
+  pub front : TookFront old new (refused_line fault)
 
 abbrev pub IsFrontFor : Option (List ℕ) → Option (List ℕ) → Option (List ℕ) → Type 0
 IsFrontFor bytes old new =
-    (IfSome bytes IsNoInput × TookFront old new refused_input)
-    ⊎ ((job : Job) × ((lines : List Line) × IsFrontOf bytes old new job lines))
+    ((fault : LineFault) × IsFrontOfRefusal bytes old new fault)
+    ⊎ ((written : Written) × ((lines : List Line) × IsFrontOf bytes old new written lines))
