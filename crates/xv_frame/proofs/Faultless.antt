@@ -16,11 +16,12 @@ use Rattle.xv_frame.specs.declared.heads.FrameFault.TheVariants as fault
 use Rattle.xv_frame.specs.declared.groups.GroupFault.{GroupFault}
 use Rattle.xv_frame.specs.declared.groups.GroupFault.TheVariants as group
 use Rattle.xv_frame.specs.Fields.{word_at, short_at, zero_at, all_zero}
-use Rattle.xv_frame.specs.Frame.{Each, Message, message, GroupFrame, IsMessage, IsGroup, unit_head, ack, entry, entry_head, entries, group_head, spelled}
+use Rattle.xv_frame.specs.Frame.{Each, Message, message, Frame, UnitFrame, AckFrame, GroupFrame, IsFrame, IsMessage, IsGroup, unit_head, ack, entry, entry_head, entries, group_head, spelled}
 use Rattle.xv_frame.specs.Heads.{IsHead, head_spelled}
 use Rattle.xv_frame.specs.Faults.{unit_fault, ack_fault, head_fault, head_or, read_head, content_fault, entry_fault, entries_fault, first_of, group_head_fault, group_fault, count_or, read_group}
 use Rattle.xv_frame.specs.Reading.{front_head, entry_size, is_marked, front_entries}
-use Rattle.xv_frame.proofs.ReadHeads.{head-back, unit-back, version-back, size-back, unit-zeros, ack-zeros, ack-more-zeros, group-zeros, entry-zeros, count-back, group-count-back, group-bytes-back, entries-follow, entry-unit-back, entry-version-back, mark-back, entry-content-follows, length-group-head, length-entry-head}
+use Rattle.xv_frame.specs.Size.{size_of_head, size_of_group, frame_size}
+use Rattle.xv_frame.proofs.ReadHeads.{length-unit-head, length-ack, head-back, unit-back, version-back, size-back, unit-zeros, ack-zeros, ack-more-zeros, group-zeros, entry-zeros, count-back, group-count-back, group-bytes-back, entries-follow, entry-unit-back, entry-version-back, mark-back, entry-content-follows, length-group-head, length-entry-head}
 use Rattle.xv_frame.proofs.Accepted.{unit-fits, size-fits, length-entries, EntryBack, entry-back}
 
 pass : {F : Type 0} (t : Bool) (f : F) (x : Option F) → t ≡ false → (if t then Some f else x) ≡ x
@@ -120,3 +121,54 @@ group-accepted s ms g h =
     pass (not (eqb (word_at b 4) (length b - 24))) group.BadLength _ (ap not (eq-eqb (word_at b 4) (length b - 24) (omega (arith, bytes, all))))
     ∙ (λ i. entries_fault s (count i) (entries-follow n z (entries ms) i)) ∙ entries-accepted s ms g h.each in
     (λ i. count_or (first_of (head i) (follow i)) (count i))
+
+-- the head of a frame
+unfoldable pub head_of : Frame → List ℕ
+head_of (UnitFrame m) = unit_head m.head (length m.content)
+head_of (AckFrame count) = ack count
+head_of (GroupFrame ms) = group_head (length ms) (length (entries ms))
+
+group-head-accepted : (s : Shape) (ms : List Message) → IsGood s → IsGroup s ms → group_head_fault (group_head (length ms) (length (entries ms)) ++ []) ≡ None
+group-head-accepted s ms g h =
+    let n = length ms in
+    let z = length (entries ms) in
+    let b : List ℕ = group_head n z ++ [] in
+    let all : length b ≡ 24 = length-append (group_head n z) [] ∙ (λ i. length-group-head n z i + 0) in
+    let count : short_at b 2 ≡ n = group-count-back n z [] (omega (arith, h.few)) in
+    pass (ltb (length b) 24) group.Short _ (le-ltb (length b) 24 (omega (arith, all)))
+    ∙ pass (eqb (short_at b 2) 0 || ltb 16 (short_at b 2)) group.BadCount _ (ap (λ k. eqb k 0 || ltb 16 k) count ∙ (λ i. positive n h.some i || le-ltb 16 n h.few i))
+    ∙ pass (not (zero_at b 8 16)) group.NotZero None (ap not (group-zeros n z []))
+
+-- the head tells how long the frame is
+pub size-told : (s : Shape) (f : Frame) → IsGood s → IsFrame s f → frame_size s (head_of f) ≡ Some (length (spelled f))
+unfolding head_of
+size-told s (UnitFrame m) g h =
+    let z = size s m.head.unit.0 in
+    let accepted : read_head s (unit_head m.head z) ≡ Ok (UnitHeadOf m.head) = head-accepted s (UnitHeadOf m.head) g (h.unit_in, h.made, h.version_fits, h.at_fits) in
+    let long : length (spelled (UnitFrame m)) ≡ 24 + z = length-append (unit_head m.head (length m.content)) m.content ∙ (λ i. length-unit-head m.head (length m.content) i + h.whole i) in
+    ap (λ k. size_of_head s (read_head s (unit_head m.head k))) h.whole ∙ ap (size_of_head s) accepted ∙ ap Some (sym long)
+size-told s (AckFrame count) g h =
+    ap (size_of_head s) (head-accepted s (Ack count) g h) ∙ ap Some (sym (length-ack count))
+size-told s (GroupFrame ms) g h =
+    let n = length ms in
+    let z = length (entries ms) in
+    let same : group_head n z ++ [] ≡ group_head n z = append-nil (group_head n z) in
+    let none : group_head_fault (group_head n z) ≡ None = ap group_head_fault (sym same) ∙ group-head-accepted s ms g h in
+    let bytes : word_at (group_head n z) 4 ≡ z = ap (λ b. word_at b 4) (sym same) ∙ group-bytes-back n z [] (omega (arith, length-entries s ms g h.each, h.few)) in
+    let long : length (spelled (GroupFrame ms)) ≡ 24 + z = length-append (group_head n z) (entries ms) ∙ ap (λ k. k + z) (length-group-head n z) in
+    (λ i. size_of_group (bytes i) (none i)) ∙ ap Some (sym long)
+
+pub head-first : (f : Frame) (rest : List ℕ) → take 24 (spelled f ++ rest) ≡ head_of f
+unfolding head_of
+head-first (UnitFrame m) rest = ap (take 24) (append_assoc (unit_head m.head (length m.content)) m.content rest) ∙ take_at (unit_head m.head (length m.content)) (m.content ++ rest) 24 (length-unit-head m.head (length m.content))
+head-first (AckFrame count) rest = take_at (ack count) rest 24 (length-ack count)
+head-first (GroupFrame ms) rest = ap (take 24) (append_assoc (group_head (length ms) (length (entries ms))) (entries ms) rest) ∙ take_at (group_head (length ms) (length (entries ms))) (entries ms ++ rest) 24 (length-group-head (length ms) (length (entries ms)))
+
+pub length-head : (f : Frame) → length (head_of f) ≡ 24
+unfolding head_of
+length-head (UnitFrame m) = length-unit-head m.head (length m.content)
+length-head (AckFrame count) = length-ack count
+length-head (GroupFrame ms) = length-group-head (length ms) (length (entries ms))
+
+pub size-at-front : (s : Shape) (f : Frame) (rest : List ℕ) → IsGood s → IsFrame s f → frame_size s (take 24 (spelled f ++ rest)) ≡ Some (length (spelled f))
+size-at-front s f rest g h = ap (frame_size s) (head-first f rest) ∙ size-told s f g h

@@ -1,5 +1,5 @@
 -- What the spellings of frames are to one another, and to what is read of them.
-use Rattle.std.specs.Prelude.{◌≡◌, ℕ, List, ◌++◌, length, Option, None, Result, Ok}
+use Rattle.std.specs.Prelude.{◌≡◌, ℕ, List, ◌++◌, length, take, Some, Ok}
 use Rattle.xv_base.specs.Units.{Shape}
 use Rattle.xv_frame.specs.declared.heads.Head.{Head}
 use Rattle.xv_frame.specs.declared.groups.GroupFault.{GroupFault}
@@ -7,6 +7,7 @@ use Rattle.xv_frame.specs.Frame.{Each, Message, Frame, GroupFrame, IsFrame, IsGr
 use Rattle.xv_frame.specs.Heads.{IsHead, head_spelled}
 use Rattle.xv_frame.specs.Faults.{read_head, read_group}
 use Rattle.xv_frame.specs.Reading.{front_frame, frames_in}
+use Rattle.xv_frame.specs.Size.{frame_size}
 
 -- two spellings of which one is a prefix of the other, or that begin the same bytes, are those of one frame
 abbrev pub HaveOneSpelling : Shape → Type 0
@@ -29,3 +30,7 @@ AcceptHeads s = (h : Head) → IsHead s h → read_head s (head_spelled s h) ≡
 
 abbrev pub AcceptGroups : Shape → Type 0
 AcceptGroups s = (ms : List Message) → IsGroup s ms → read_group s (spelled (GroupFrame ms)) ≡ Ok (length ms)
+
+-- the head of a frame tells how long the frame is
+abbrev pub TellSize : Shape → Type 0
+TellSize s = (f : Frame) → IsFrame s f → (rest : List ℕ) → frame_size s (take 24 (spelled f ++ rest)) ≡ Some (length (spelled f))

@@ -4,3 +4,4 @@ pub mod Faults
 pub mod Reading
 pub mod Heads
 pub mod Laws
+pub mod Size

@@ -4,7 +4,7 @@ ghost use Rattle.std.specs.Prelude.{◌≡◌, ◌≤◌, length, IfOk};
 ghost use Rattle.xv_frame.specs.Faults.{read_head, unit_fault, ack_fault, head_or};
 ghost use Rattle.xv_frame.specs.Reading.{front_head};
 ghost use Rattle.xv_frame.specs.Fields.{word_at};
-ghost use Rattle.xv_frame.specs.Heads.{IsHead, head_spelled};
+ghost use Rattle.xv_frame.specs.Heads.{IsHead, IsOfLayout, head_spelled};
 
 use crate::fields::{is_zero, long_at, word_at};
 use xv_base::{Layout, UnitHead, UnitId};
@@ -44,9 +44,12 @@ pub fn decode_head(head: &[u8; 24], layout: &Layout) -> Result<Head, FrameFault>
     read_head(head, layout)
 }
 
-fn read_head(head: &[u8], layout: &Layout) -> Result<Head, FrameFault>
+/// Reads the head of a frame from a slice of 24 bytes.
+/// Errors: the first fault of the bytes.
+pub fn read_head(head: &[u8], layout: &Layout) -> Result<Head, FrameFault>
     requires { length head.now ≡ 24 }
-    ensures { result ≡ read_head layout.now head.now }
+    ensures exactly { result ≡ read_head layout.now head.now }
+    ensures unit_in { IfOk result (λ it. IsOfLayout layout.now it) }
 {
     if head[0] != 1 {
         return Err(FrameFault::BadFormat);

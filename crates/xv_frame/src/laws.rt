@@ -2,7 +2,7 @@
 
 ghost use Rattle.xv_base.specs.Units.{Shape};
 ghost use Rattle.xv_base.specs.Layout.{IsGood};
-ghost use Rattle.xv_frame.specs.Laws.{HaveOneSpelling, FitOneList, ReadBack, ReadBackAll, AcceptHeads, AcceptGroups};
+ghost use Rattle.xv_frame.specs.Laws.{HaveOneSpelling, FitOneList, ReadBack, ReadBackAll, AcceptHeads, AcceptGroups, TellSize};
 
 /// Each frame has one spelling, and no spelling is a prefix of another frame's.
 pub fn frames_have_one_spelling()
@@ -32,4 +32,9 @@ pub fn spelled_heads_are_accepted()
 /// The check of a group accepts each spelling.
 pub fn spelled_groups_are_accepted()
     ensures { (s : Shape) → IsGood s → AcceptGroups s }
+{}
+
+/// The head of a frame tells how long the frame is.
+pub fn heads_tell_size()
+    ensures { (s : Shape) → IsGood s → TellSize s }
 {}

@@ -11,9 +11,11 @@ mod fields;
 mod groups;
 mod heads;
 pub mod laws;
+mod size;
 #[cfg(test)]
 mod tests;
 
 pub use encode::{encode_ack, encode_entry, encode_group_head, encode_unit};
 pub use groups::{Entry, GroupFault, GroupHead, check_group, decode_entry, decode_group_head};
-pub use heads::{FrameFault, Head, decode_head};
+pub use heads::{FrameFault, Head, decode_head, read_head};
+pub use size::frame_size;
