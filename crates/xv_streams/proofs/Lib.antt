@@ -4,3 +4,4 @@ pub mod FrameTakes
 pub mod Zips
 pub mod LaneSteps
 pub mod PutSteps
+pub mod MessageSteps

@@ -1,13 +1,15 @@
 -- What is seen of some streams.
-use Rattle.std.specs.Prelude.{◌≡◌, ℕ, ◌+◌, ◌*◌, ◌-◌, ◌≤◌, ◌==◌, Bool, false, List, [], ◌∷◌, ◌++◌, length, map, set, get_or, Option, Some, None, ⊤, if◌then◌else◌}
+use Rattle.std.specs.Prelude.{◌≡◌, ℕ, ◌+◌, ◌*◌, ◌-◌, ◌<◌, ◌≤◌, ◌==◌, Bool, false, List, [], ◌∷◌, ◌++◌, length, map, set, drop, get_or, Option, Some, None, Result, IfOk, IfErr, IfSome, is_err, ⊤, if◌then◌else◌}
 use Rattle.xv_base.specs.declared.operation.UnitHead.{UnitHead}
-use Rattle.xv_base.specs.Units.{Shape, max_size}
+use Rattle.xv_base.specs.declared.unit.Failed.{Failed}
+use Rattle.xv_base.specs.Units.{Shape, units, size, max_size}
 use Rattle.xv_frame.specs.Frame.{Message, message, Frame, UnitFrame, AckFrame, GroupFrame, Each, spelled}
 use Rattle.xv_frame.specs.Reading.{frames_in}
 use Rattle.xv_wire.specs.Wire.{PutBytes}
 use Rattle.xv_wire.specs.Told.{Told, CallMade}
 use Rattle.xv_streams.specs.Gathered.{Gathered}
-use Rattle.xv_streams.specs.Lanes.{IsLane}
+use Rattle.xv_streams.specs.Taking.{TakesMade}
+use Rattle.xv_streams.specs.Lanes.{IsLane, wanted}
 
 -- one stream: the groups of messages on the way, in order, the bytes gathered of the first, and its wire
 pub record LaneSeen : Type 0 where
@@ -88,3 +90,14 @@ pub record FramePut (f : Frame) (failed : Bool) (old new : LaneSeen) : Type 0 wh
   pub groups : new.groups ≡ (if failed then old.groups else old.groups ++ messages_of f ∷ [])
   pub gathered : new.gathered ≡ old.gathered
   pub made : CallMade (PutBytes (spelled f)) failed old.wire new.wire old.faults new.faults
+
+-- a message was taken off a stream, or there was none, or a take failed; what is gathered stays, and the calls of the wire
+-- were the takes of so many bytes
+pub record MessageTaken (s : Shape) (result : Result (Option UnitHead) Failed) (content : List ℕ) (old new : LaneSeen) : Type 0 where
+  pub groups : new.groups ≡ (if is_err result then old.groups else drop 1 old.groups)
+  pub answer : IfOk result (λ it. it ≡ head_of_first (first_group old.groups))
+  pub content_is : IfOk result (λ it. content ≡ content_of_first (first_group old.groups))
+  pub in_range : IfOk result (λ it. IfSome it (λ h. (h.unit.0 < units s) × (length content ≡ size s h.unit.0)))
+  pub gathered : IfOk result (λ it. new.gathered ≡ [])
+  pub kept : IfErr result (λ e. new.gathered ++ new.wire.transit ≡ old.gathered ++ old.wire.transit)
+  pub made : TakesMade (length old.wire.transit - length new.wire.transit) (is_err result) (wanted (frames_in s (old.gathered ++ old.wire.transit)) (length old.gathered)) old.wire new.wire old.faults new.faults

@@ -1,17 +1,21 @@
 //! Streams of messages over some wires.
 
-ghost use Rattle.std.specs.Prelude.{◌≡◌, ℕ, false, ◌+◌, ◌*◌, ◌<◌, ◌≤◌, ◌^◌, [], ◌∷◌, ◌++◌, length, drop, IfOk, IfErr, is_err, IfSome, if◌then◌else◌};
+ghost use Rattle.std.specs.Prelude.{◌≡◌, ℕ, false, ◌+◌, ◌-◌, ◌*◌, ◌<◌, ◌≤◌, ◌^◌, [], ◌∷◌, ◌++◌, length, take, drop, IfOk, IfErr, is_err, IfSome, if◌then◌else◌};
 ghost use Rattle.xv_base.specs.Units.{units, size, max_size};
 ghost use Rattle.xv_frame.specs.Frame.{UnitFrame, message, spelled};
 ghost use Rattle.xv_wire.specs.Wire.{PutBytes};
 ghost use Rattle.xv_wire.specs.Told.{MayCall, CallMade};
-ghost use Rattle.xv_streams.specs.Streamed.{lane, OnlyLane, FramePut};
+ghost use Rattle.xv_streams.specs.Streamed.{lane, OnlyLane, FramePut, IsLaneOf, MessageTaken, seen_lane, first_group, content_of_first};
+ghost use Rattle.xv_base.specs.Layout.{IsGood};
+ghost use Rattle.xv_frame.specs.Reading.{front_head};
+ghost use Rattle.xv_frame.specs.Faults.{read_head};
+ghost use Rattle.xv_frame.specs.declared.heads.Head.TheVariants as Head;
 
 use crate::lane::Lane;
 use std::alloc::Global;
 use std::marker::Model;
 use xv_base::{Failed, Layout, UnitHead};
-use xv_frame::encode_unit;
+use xv_frame::{Head, encode_unit, read_head};
 use xv_wire::Wire;
 
 /// Some wires, each of which carries the messages of one stream.
@@ -70,6 +74,20 @@ impl<W: Wire> Streams<W> {
         put_frame(&mut self.wires[place], &mut self.lanes[place], &self.frame[..size])
     }
 
+    /// Takes the first message off a stream; its content then is in the first bytes of `into`, which has the greatest
+    /// size of a unit.
+    /// Errors: the wire failed; the lists are unchanged, and a later call goes on with the bytes gathered.
+    pub fn receive(&mut self, stream: u8, into: &mut [u8]) -> Result<Option<UnitHead>, Failed>
+        requires stream_in { stream < length self.old.lanes }
+        requires format { self.old.format ≡ 1 }
+        requires room { max_size self.old.shape ≤ length into.old }
+        ensures others { OnlyLane stream self.old self.new }
+        ensures taken { MessageTaken self.old.shape result (take (length (content_of_first (first_group (lane self.old stream).groups))) into.new) (lane self.old stream) (lane self.new stream) }
+    {
+        let place = stream as usize;
+        receive_message(&mut self.wires[place], &mut self.lanes[place], &self.layout, into)
+    }
+
     /// The wires as they are.
     pub fn into_wires(self) -> Vec<W> {
         self.wires
@@ -92,5 +110,46 @@ fn put_frame<W: Wire>(wire: &mut W, lane: &mut Lane, frame: &[u8]) -> Result<(),
             Ok(())
         }
         Err(_) => Err(Failed),
+    }
+}
+
+/// Takes the first message off a lane of unit frames.
+fn receive_message<W: Wire>(
+    wire: &mut W,
+    lane: &mut Lane,
+    layout: &Layout,
+    into: &mut [u8],
+) -> Result<Option<UnitHead>, Failed>
+    requires good { IsGood layout.now }
+    requires lane { IsLaneOf layout.now 1 (W.told wire.old) lane.old }
+    requires room { max_size layout.now ≤ length into.old }
+    ensures lane { IsLaneOf layout.now 1 (W.told wire.new) lane.new }
+    ensures taken { MessageTaken layout.now result (take (length (content_of_first (first_group (seen_lane layout.now (W.told wire.old) (W.faults wire.old) lane.old).groups))) into.new) (seen_lane layout.now (W.told wire.old) (W.faults wire.old) lane.old) (seen_lane layout.now (W.told wire.new) (W.faults wire.new) lane.new) }
+{
+    match lane.gather(wire, layout) {
+        Ok(true) => {
+            let head = read_unit(lane.bytes(), layout, into);
+            lane.taken_off();
+            Ok(Some(head))
+        }
+        Ok(false) => Ok(None),
+        Err(_) => Err(Failed),
+    }
+}
+
+/// Reads a unit frame, whose content goes to the first bytes of `into`.
+fn read_unit(frame: &[u8], layout: &Layout, into: &mut [u8]) -> UnitHead
+    requires long { 24 ≤ length frame.now }
+    requires room { length frame.now ≤ 24 + length into.old }
+    requires known { read_head layout.now (take 24 frame.now) ≡ Ok (Head.Unit (front_head frame.now)) }
+    ensures head { result ≡ front_head frame.now }
+    ensures content { take (length frame.now - 24) into.new ≡ drop 24 frame.now }
+{
+    let content = frame.len() - 24;
+    into[..content].copy_from_slice(&frame[24..]);
+    match read_head(&frame[..24], layout) {
+        Ok(Head::Unit(head)) => head,
+        Ok(Head::Ack(_)) => unreachable!(),
+        Err(_) => unreachable!(),
     }
 }
