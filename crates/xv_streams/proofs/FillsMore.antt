@@ -17,11 +17,11 @@ gathers-more have count want m start now into transit left h below room there wa
     let written : List ℕ = into ++ post_of count (want - count) now in
     let front : length (take m left) ≡ m = omega (arith, length-take m left) in
     let first : take m written ≡ take m left =
-        ap (λ xs. take m (xs ++ post_of count (want - count) now)) gives
-        ∙ ap (take m) (append_assoc (take m left) (drop m (take (want - count) (drop count now))) (post_of count (want - count) now))
-        ∙ take_at (take m left) (drop m (take (want - count) (drop count now)) ++ post_of count (want - count) now) m front in
+    ap (λ xs. take m (xs ++ post_of count (want - count) now)) gives
+    ∙ ap (take m) (append_assoc (take m left) (drop m (take (want - count) (drop count now))) (post_of count (want - count) now))
+    ∙ take_at (take m left) (drop m (take (want - count) (drop count now)) ++ post_of count (want - count) now) m front in
     let split : take (count + m) (take count now ++ written) ≡ take count now ++ take m written =
-        ap (λ k. take (k + m) (take count now ++ written)) (sym long) ∙ take-append-add (take count now) written m in
+    ap (λ k. take (k + m) (take count now ++ written)) (sym long) ∙ take-append-add (take count now) written m in
     let more : count + m - have ≡ n + m = omega arith in
     split ∙ (λ i. was i ++ (first ∙ ap (take m) l) i) ∙ append_assoc (take have start) (take n transit) (take m (drop n transit))
     ∙ ap (λ xs. take have start ++ xs) (sym (take-add n m transit) ∙ ap (λ k. take k transit) (sym more))

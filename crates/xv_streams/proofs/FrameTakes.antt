@@ -92,29 +92,29 @@ pub head-failed : (s : Shape) (room : ℕ) (old new : List ℕ) (have count want
     → FrameTaken s old new true t u f g
 head-failed s room old new have count want t u f g l h w = taken-of s old new true t u f g (by (frames_in s (old ++ t.transit)) refl)
   where
-  by : (fs : List Frame) → frames_in s (old ++ t.transit) ≡ fs → TakenOf fs old new true t u f g
-  by [] e = empty-taken old new have count want true t u f g h w (empty-lane old t.transit (ap all_spelled (sym e) ∙ l.stand))
-  by (x ∷ rest) e =
-      let first = first-lane s room x rest old t.transit l e in
-      let short : want ≤ length (spelled x) = omega (arith, length-spelled x, first.part, h.old_long) in
-      record {
-        moved = fills-move old new have count want true t u f g h;
-        grown = omega (arith, h.grown, h.old_long, h.new_long);
-        part = omega (arith, h.most, h.new_long);
-        whole = λ c. absurd (false≢true (sym c));
-        made = made-by (count - have) (length new - length old) (length (spelled x) - have) (length (spelled x) - length old) true t u f g
-            (failed-of-more (count - have) (want - have) (length (spelled x) - have) t u f g h.made (omega arith)) (omega (arith, h.new_long, h.old_long)) (omega (arith, h.old_long));
-      }
+    by : (fs : List Frame) → frames_in s (old ++ t.transit) ≡ fs → TakenOf fs old new true t u f g
+    by [] e = empty-taken old new have count want true t u f g h w (empty-lane old t.transit (ap all_spelled (sym e) ∙ l.stand))
+    by (x ∷ rest) e =
+        let first = first-lane s room x rest old t.transit l e in
+        let short : want ≤ length (spelled x) = omega (arith, length-spelled x, first.part, h.old_long) in
+        record {
+          moved = fills-move old new have count want true t u f g h;
+          grown = omega (arith, h.grown, h.old_long, h.new_long);
+          part = omega (arith, h.most, h.new_long);
+          whole = λ c. absurd (false≢true (sym c));
+          made = made-by (count - have) (length new - length old) (length (spelled x) - have) (length (spelled x) - length old) true t u f g
+              (failed-of-more (count - have) (want - have) (length (spelled x) - have) t u f g h.made (omega arith)) (omega (arith, h.new_long, h.old_long)) (omega (arith, h.old_long));
+        }
 
 pub head-none : (s : Shape) (room : ℕ) (old new : List ℕ) (have count want : ℕ) (t u : Told) (f g : ℕ) → IsLane s room old t.transit → Fills old new have count want false t u f g → want ≡ max have 24 → count < 24
     → FrameTaken s old new false t u f g
 head-none s room old new have count want t u f g l h w few = taken-of s old new false t u f g (by (frames_in s (old ++ t.transit)) refl)
   where
-  by : (fs : List Frame) → frames_in s (old ++ t.transit) ≡ fs → TakenOf fs old new false t u f g
-  by [] e = empty-taken old new have count want false t u f g h w (empty-lane old t.transit (ap all_spelled (sym e) ∙ l.stand))
-  by (x ∷ rest) e =
-      let first = first-lane s room x rest old t.transit l e in
-      absurd (omega (arith, h.enough refl, length-spelled x, first.there, h.old_long))
+    by : (fs : List Frame) → frames_in s (old ++ t.transit) ≡ fs → TakenOf fs old new false t u f g
+    by [] e = empty-taken old new have count want false t u f g h w (empty-lane old t.transit (ap all_spelled (sym e) ∙ l.stand))
+    by (x ∷ rest) e =
+        let first = first-lane s room x rest old t.transit l e in
+        absurd (omega (arith, h.enough refl, length-spelled x, first.there, h.old_long))
 
 -- a whole head: there is a first frame, and the head tells its size
 pub record HeadKnown (s : Shape) (room : ℕ) (old new transit : List ℕ) (count size : ℕ) : Type 0 where
@@ -131,36 +131,36 @@ pub head-known : (s : Shape) (room : ℕ) (old new : List ℕ) (have count want 
     → frame_size s (take 24 new) ≡ Some size → HeadKnown s room old new t.transit count size
 head-known s room old new have count want size t u f g good l h w many told = by (frames_in s (old ++ t.transit)) refl
   where
-  by : (fs : List Frame) → frames_in s (old ++ t.transit) ≡ fs → HeadKnown s room old new t.transit count size
-  by [] e =
-      let none = empty-lane old t.transit (ap all_spelled (sym e) ∙ l.stand) in
-      absurd (omega (arith, h.there, h.old_long, none.none_gathered, none.none_left))
-  by (x ∷ rest) e =
-      let first = first-lane s room x rest old t.transit l e in
-      let front : take 24 new ≡ take 24 (spelled x ++ all_spelled rest) =
-          sym (take-append-le 24 new u.transit (omega (arith, h.new_long))) ∙ ap (take 24) (fills-move old new have count want false t u f g h ∙ first.stands) in
-      let is : size ≡ length (spelled x) = size-some size (length (spelled x)) (sym told ∙ ap (frame_size s) front ∙ size-at-front s x (all_spelled rest) good first.frame) in
-      record {
-        fits = omega (arith, is, first.fits);
-        within = omega (arith, is, h.most, length-spelled x, first.part, h.old_long);
-        first = ap front_size e ∙ sym is;
-        wants = ap (λ fs. wanted fs (length old)) e ∙ ap (λ k. k - length old) (sym is);
-        there = omega (arith, is, first.there);
-      }
+    by : (fs : List Frame) → frames_in s (old ++ t.transit) ≡ fs → HeadKnown s room old new t.transit count size
+    by [] e =
+        let none = empty-lane old t.transit (ap all_spelled (sym e) ∙ l.stand) in
+        absurd (omega (arith, h.there, h.old_long, none.none_gathered, none.none_left))
+    by (x ∷ rest) e =
+        let first = first-lane s room x rest old t.transit l e in
+        let front : take 24 new ≡ take 24 (spelled x ++ all_spelled rest) =
+        sym (take-append-le 24 new u.transit (omega (arith, h.new_long))) ∙ ap (take 24) (fills-move old new have count want false t u f g h ∙ first.stands) in
+        let is : size ≡ length (spelled x) = size-some size (length (spelled x)) (sym told ∙ ap (frame_size s) front ∙ size-at-front s x (all_spelled rest) good first.frame) in
+        record {
+          fits = omega (arith, is, first.fits);
+          within = omega (arith, is, h.most, length-spelled x, first.part, h.old_long);
+          first = ap front_size e ∙ sym is;
+          wants = ap (λ fs. wanted fs (length old)) e ∙ ap (λ k. k - length old) (sym is);
+          there = omega (arith, is, first.there);
+        }
 
 pub size-known : (s : Shape) (room : ℕ) (old new : List ℕ) (have count want : ℕ) (t u : Told) (f g : ℕ) → IsGood s → IsLane s room old t.transit → Fills old new have count want false t u f g → want ≡ max have 24 → 24 ≤ count
     → is_some (frame_size s (take 24 new)) ≡ true
 size-known s room old new have count want t u f g good l h w many = by (frames_in s (old ++ t.transit)) refl
   where
-  by : (fs : List Frame) → frames_in s (old ++ t.transit) ≡ fs → is_some (frame_size s (take 24 new)) ≡ true
-  by [] e =
-      let none = empty-lane old t.transit (ap all_spelled (sym e) ∙ l.stand) in
-      absurd (omega (arith, h.there, h.old_long, none.none_gathered, none.none_left))
-  by (x ∷ rest) e =
-      let first = first-lane s room x rest old t.transit l e in
-      let front : take 24 new ≡ take 24 (spelled x ++ all_spelled rest) =
-          sym (take-append-le 24 new u.transit (omega (arith, h.new_long))) ∙ ap (take 24) (fills-move old new have count want false t u f g h ∙ first.stands) in
-      ap is_some (ap (frame_size s) front ∙ size-at-front s x (all_spelled rest) good first.frame)
+    by : (fs : List Frame) → frames_in s (old ++ t.transit) ≡ fs → is_some (frame_size s (take 24 new)) ≡ true
+    by [] e =
+        let none = empty-lane old t.transit (ap all_spelled (sym e) ∙ l.stand) in
+        absurd (omega (arith, h.there, h.old_long, none.none_gathered, none.none_left))
+    by (x ∷ rest) e =
+        let first = first-lane s room x rest old t.transit l e in
+        let front : take 24 new ≡ take 24 (spelled x ++ all_spelled rest) =
+        sym (take-append-le 24 new u.transit (omega (arith, h.new_long))) ∙ ap (take 24) (fills-move old new have count want false t u f g h ∙ first.stands) in
+        ap is_some (ap (frame_size s) front ∙ size-at-front s x (all_spelled rest) good first.frame)
 
 -- the rest of the frame
 pub rest-taken : (s : Shape) (room : ℕ) (old mid new : List ℕ) (have count want size last : ℕ) (failed : Bool) (t u v : Told) (f g k : ℕ)
@@ -172,8 +172,8 @@ rest-taken s room old mid new have count want size last failed t u v f g k h kno
     let long : length u.transit ≡ length t.transit - n = ap length (ap (λ (s' : Told). s'.transit) h.made.told) ∙ length-drop n t.transit in
     let begun : Taking n (size - have) t u f g = go-on n (want - have) (size - have) t u f g h.made (omega arith) (omega (arith, known.within)) in
     let took : TakesMade (n + (last - count)) failed (size - have) t v f k =
-        takes-after n (last - count) (size - have) failed t u v f g k begun h.there (omega (arith, known.within))
-        (made-by (last - count) (last - count) (size - count) (size - have - n) failed u v g k rest.made refl (omega (arith, h.grown))) in
+    takes-after n (last - count) (size - have) failed t u v f g k begun h.there (omega (arith, known.within))
+    (made-by (last - count) (last - count) (size - count) (size - have - n) failed u v g k rest.made refl (omega (arith, h.grown))) in
     record {
       moved = fills-move mid new count last size failed u v g k rest ∙ fills-move old mid have count want false t u f g h;
       grown = omega (arith, h.grown, rest.grown, h.old_long, rest.new_long);

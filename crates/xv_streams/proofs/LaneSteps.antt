@@ -134,6 +134,6 @@ whole-frame s format new l t u f g good h taken some = whole-by s format (frames
 pub no-frame : (s : Shape) (new : List ℕ) (l : Gathered) (t u : Told) (f g : ℕ) → FrameTaken s l.bytes new false t u f g → length new ≡ 0 → frames_in s (l.bytes ++ t.transit) ≡ []
 no-frame s new l t u f g taken none = by (frames_in s (l.bytes ++ t.transit)) (omega (arith, taken.whole refl))
   where
-  by : (fs : List Frame) → front_size fs ≡ 0 → fs ≡ []
-  by [] e = refl
-  by (x ∷ fs) e = absurd (omega (arith, length-spelled x))
+    by : (fs : List Frame) → front_size fs ≡ 0 → fs ≡ []
+    by [] e = refl
+    by (x ∷ fs) e = absurd (omega (arith, length-spelled x))

@@ -5,3 +5,4 @@ pub mod Zips
 pub mod LaneSteps
 pub mod PutSteps
 pub mod MessageSteps
+pub mod FreshLanes

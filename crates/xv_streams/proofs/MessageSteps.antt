@@ -75,9 +75,15 @@ message-of : (s : Shape) (l : Gathered) (t u : Told) (new : List ℕ) (fr : Fram
 message-of s l t u new (UnitFrame m) others good h =
     let stands : new ≡ spelled (UnitFrame m) = h.front in
     record {
-      m = m; others = others; list = h.list;
+      m = m;
+      others = others;
+      list = h.list;
       is = ap (front_message s) (stands ∙ ap (λ xs. unit_head m.head (length m.content) ++ xs) (sym (append-nil m.content))) ∙ message-back s m [] good h.frame;
-      good = h.frame; front = stands; behind = h.behind; lane = h.lane; some = h.some;
+      good = h.frame;
+      front = stands;
+      behind = h.behind;
+      lane = h.lane;
+      some = h.some;
     }
 message-of s l t u new (AckFrame count) others good h = absurd (omega (arith, h.kind))
 message-of s l t u new (GroupFrame ms) others good h = absurd (omega (arith, h.kind))

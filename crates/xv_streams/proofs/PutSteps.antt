@@ -80,7 +80,7 @@ module _ {A : Type 0} (t : A → Told) (f : A → ℕ) (s : Shape) (format : ℕ
   changed ws ls k w l h b i =
       let all = seen-set t f s format ws ls k w l h in
       let at : get_or (seen_lanes t f s (set ws k w) (set ls k l)) k no_lane ≡ seen_lane s (t w) (f w) l =
-          ap (λ xs. get_or xs k no_lane) all ∙ get_or-set_same (seen_lanes t f s ws ls) k (seen_lane s (t w) (f w) l) no_lane (omega (arith, length-seen t f s format ws ls h)) in
+      ap (λ xs. get_or xs k no_lane) all ∙ get_or-set_same (seen_lanes t f s ws ls) k (seen_lane s (t w) (f w) l) no_lane (omega (arith, length-seen t f s format ws ls h)) in
       record {
         lanes = lanes-set t f s format ws ls k w l h i;
         seen = at;

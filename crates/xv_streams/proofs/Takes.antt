@@ -27,18 +27,18 @@ some-met n met ps h = ap (λ t. if t then met else is_inside n ps) (positive n h
 after-add : (n m : ℕ) (ps : List ℕ) → left_after m (left_after n ps) ≡ left_after (n + m) ps
 after-add n m ps = elim (cases_lt 0 n) [
   | inl some ↦ elim (cases_lt 0 m) [
-      | inl more ↦ ap (left_after m) (left-some n ps some) ∙ left-some m (left_past n ps) more ∙ sym (left-add n m ps) ∙ sym (left-some (n + m) ps (omega arith))
-      | inr none ↦ none-after m (left_after n ps) (omega arith) ∙ (let e : n ≡ n + m = omega arith in ap (λ k. left_after k ps) e)
-    ]
+    | inl more ↦ ap (left_after m) (left-some n ps some) ∙ left-some m (left_past n ps) more ∙ sym (left-add n m ps) ∙ sym (left-some (n + m) ps (omega arith))
+    | inr none ↦ none-after m (left_after n ps) (omega arith) ∙ (let e : n ≡ n + m = omega arith in ap (λ k. left_after k ps) e)
+  ]
   | inr zero' ↦ ap (left_after m) (none-after n ps (omega arith)) ∙ (let e : m ≡ n + m = omega arith in ap (λ k. left_after k ps) e)
 ]
 
 met-add : (n m : ℕ) (met : Bool) (ps : List ℕ) → met_past m (met_past n met ps) (left_after n ps) ≡ met_past (n + m) met ps
 met-add n m met ps = elim (cases_lt 0 n) [
   | inl some ↦ elim (cases_lt 0 m) [
-      | inl more ↦ some-met m (met_past n met ps) (left_after n ps) more ∙ ap (is_inside m) (left-some n ps some) ∙ sym (inside-add n m ps more) ∙ sym (some-met (n + m) met ps (omega arith))
-      | inr none ↦ none-met m (met_past n met ps) (left_after n ps) (omega arith) ∙ (let e : n ≡ n + m = omega arith in ap (λ k. met_past k met ps) e)
-    ]
+    | inl more ↦ some-met m (met_past n met ps) (left_after n ps) more ∙ ap (is_inside m) (left-some n ps some) ∙ sym (inside-add n m ps more) ∙ sym (some-met (n + m) met ps (omega arith))
+    | inr none ↦ none-met m (met_past n met ps) (left_after n ps) (omega arith) ∙ (let e : n ≡ n + m = omega arith in ap (λ k. met_past k met ps) e)
+  ]
   | inr zero' ↦ (λ i. met_past m (none-met n met ps (omega arith) i) (none-after n ps (omega arith) i)) ∙ (let e : m ≡ n + m = omega arith in ap (λ k. met_past k met ps) e)
 ]
 
@@ -64,9 +64,9 @@ told-none t = λ i. record { capacity = t.capacity; transit = t.transit; counted
 pub taking-start : (want : ℕ) (t : Told) (f : ℕ) → Taking 0 want t t f f
 taking-start want t f = record { told = sym (told-none t); planned = none-yet t.counted; never_falls = omega arith }
   where
-  none-yet : (o : Option Counted) → IfSome o (λ c. AreOfOnePiece want t c → 0 < 0 → is_planned (TakeBytes 0) t.transit c ≡ false)
-  none-yet None = tt
-  none-yet (Some c) = λ p h. absurd (omega arith)
+    none-yet : (o : Option Counted) → IfSome o (λ c. AreOfOnePiece want t c → 0 < 0 → is_planned (TakeBytes 0) t.transit c ≡ false)
+    none-yet None = tt
+    none-yet (Some c) = λ p h. absurd (omega arith)
 
 -- once the first of the bytes of one piece are taken, no take of the others fails by the plan
 not-met : (b x m : Bool) → m ≡ true → ((b && not m) && x) ≡ false
@@ -214,6 +214,6 @@ failed-of-more n want more t now f g h le = record {
   caused = h.caused;
 }
   where
-  wider : (0 < want) ⊎ (want ≤ 0) → (b : Bool) → true ≡ (nat_lt 0 want && b) → true ≡ (nat_lt 0 more && b)
-  wider (inl some) b e = e ∙ (λ i. (lt-ltb 0 want some ∙ sym (lt-ltb 0 more (omega arith))) i && b)
-  wider (inr none) b e = absurd (false≢true (sym (e ∙ ap (λ k. k && b) (le-ltb 0 want none))))
+    wider : (0 < want) ⊎ (want ≤ 0) → (b : Bool) → true ≡ (nat_lt 0 want && b) → true ≡ (nat_lt 0 more && b)
+    wider (inl some) b e = e ∙ (λ i. (lt-ltb 0 want some ∙ sym (lt-ltb 0 more (omega arith))) i && b)
+    wider (inr none) b e = absurd (false≢true (sym (e ∙ ap (λ k. k && b) (le-ltb 0 want none))))

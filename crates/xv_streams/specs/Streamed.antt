@@ -101,3 +101,7 @@ pub record MessageTaken (s : Shape) (result : Result (Option UnitHead) Failed) (
   pub gathered : IfOk result (λ it. new.gathered ≡ [])
   pub kept : IfErr result (λ e. new.gathered ++ new.wire.transit ≡ old.gathered ++ old.wire.transit)
   pub made : TakesMade (length old.wire.transit - length new.wire.transit) (is_err result) (wanted (frames_in s (old.gathered ++ old.wire.transit)) (length old.gathered)) old.wire new.wire old.faults new.faults
+
+-- a stream on which nothing is
+abbrev pub fresh_lane : Told → ℕ → LaneSeen
+fresh_lane told failed = record { groups = []; gathered = []; wire = told; faults = failed }

@@ -12,12 +12,7 @@ use xv_wire::Wire;
 
 /// Gathers the first frame on the way behind the first `have` bytes of the buffer. No byte is gathered where no take
 /// failed and there is no frame.
-pub fn fill_frame<W: Wire>(
-    wire: &mut W,
-    buffer: &mut [u8],
-    have: usize,
-    layout: &Layout,
-) -> Filled
+pub fn fill_frame<W: Wire>(wire: &mut W, buffer: &mut [u8], have: usize, layout: &Layout) -> Filled
     requires good { IsGood layout.now }
     requires room { 24 ≤ length buffer.old }
     requires within { have ≤ length buffer.old }

@@ -10,6 +10,8 @@ mod filling;
 mod framing;
 mod lane;
 mod streams;
+#[cfg(test)]
+mod tests;
 
 pub use filling::{Filled, fill};
 pub use framing::fill_frame;

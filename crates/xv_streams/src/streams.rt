@@ -1,11 +1,11 @@
 //! Streams of messages over some wires.
 
-ghost use Rattle.std.specs.Prelude.{◌≡◌, ℕ, false, ◌+◌, ◌-◌, ◌*◌, ◌<◌, ◌≤◌, ◌^◌, [], ◌∷◌, ◌++◌, length, take, drop, IfOk, IfErr, is_err, IfSome, if◌then◌else◌};
+ghost use Rattle.std.specs.Prelude.{◌≡◌, ℕ, false, ◌+◌, ◌-◌, ◌*◌, ◌<◌, ◌≤◌, ◌^◌, [], ◌∷◌, ◌++◌, length, take, drop, map, replicate, All, IfOk, IfErr, is_err, IfSome, if◌then◌else◌};
 ghost use Rattle.xv_base.specs.Units.{units, size, max_size};
 ghost use Rattle.xv_frame.specs.Frame.{UnitFrame, message, spelled};
 ghost use Rattle.xv_wire.specs.Wire.{PutBytes};
 ghost use Rattle.xv_wire.specs.Told.{MayCall, CallMade};
-ghost use Rattle.xv_streams.specs.Streamed.{lane, OnlyLane, FramePut, IsLaneOf, MessageTaken, seen_lane, first_group, content_of_first};
+ghost use Rattle.xv_streams.specs.Streamed.{lane, fresh_lane, frame_room, OnlyLane, FramePut, IsLaneOf, MessageTaken, seen_lane, first_group, content_of_first};
 ghost use Rattle.xv_base.specs.Layout.{IsGood};
 ghost use Rattle.xv_frame.specs.Reading.{front_head};
 ghost use Rattle.xv_frame.specs.Faults.{read_head};
@@ -14,7 +14,7 @@ ghost use Rattle.xv_frame.specs.declared.heads.Head.TheVariants as Head;
 use crate::lane::Lane;
 use std::alloc::Global;
 use std::marker::Model;
-use xv_base::{Failed, Layout, UnitHead};
+use xv_base::{Failed, Layout, NoMemory, UnitHead};
 use xv_frame::{Head, encode_unit, read_head};
 use xv_wire::Wire;
 
@@ -42,6 +42,39 @@ impl<W: Wire> Model for Streams<W> {
 }
 
 impl<W: Wire> Streams<W> {
+    /// Streams over these wires, from 1 to 8, in which nothing is in transit, with frames of the format 1 or 2.
+    /// Errors: want of memory, with the wires as they were.
+    pub fn new(
+        alloc: Global,
+        wires: Vec<W>,
+        layout: Layout,
+        format: u8,
+    ) -> Result<Streams<W>, Vec<W>>
+        requires some { 1 ≤ length wires.items }
+        requires few { length wires.items ≤ 8 }
+        requires format { (1 ≤ format) × (format ≤ 2) }
+        requires none { All (λ w. (W.told w).transit ≡ []) wires.items }
+        ensures shape { IfOk result (λ streams. streams.shape ≡ layout) }
+        ensures format { IfOk result (λ streams. streams.format ≡ format) }
+        ensures empty { IfOk result (λ streams. streams.lanes ≡ map (λ w. fresh_lane (W.told w) (W.faults w)) wires.items) }
+        ensures back { IfErr result (λ back. back.items ≡ wires.items) }
+    {
+        let room = frame_room(&layout, format);
+        let Ok(lanes) = new_lanes(alloc, wires.len(), room) else {
+            return Err(wires);
+        };
+        let Ok(frame) = Vec::from_elem(alloc, 0, room) else {
+            return Err(wires);
+        };
+        Ok(Streams {
+            layout,
+            format,
+            wires,
+            lanes,
+            frame,
+        })
+    }
+
     /// The format of the frames, 1 or 2.
     pub fn format(&self) -> u8
         ensures { result ≡ self.now.format }
@@ -71,7 +104,11 @@ impl<W: Wire> Streams<W> {
     {
         let size = encode_unit(&self.layout, head, bytes, &mut self.frame);
         let place = stream as usize;
-        put_frame(&mut self.wires[place], &mut self.lanes[place], &self.frame[..size])
+        put_frame(
+            &mut self.wires[place],
+            &mut self.lanes[place],
+            &self.frame[..size],
+        )
     }
 
     /// Takes the first message off a stream; its content then is in the first bytes of `into`, which has the greatest
@@ -85,11 +122,18 @@ impl<W: Wire> Streams<W> {
         ensures taken { MessageTaken self.old.shape result (take (length (content_of_first (first_group (lane self.old stream).groups))) into.new) (lane self.old stream) (lane self.new stream) }
     {
         let place = stream as usize;
-        receive_message(&mut self.wires[place], &mut self.lanes[place], &self.layout, into)
+        receive_message(
+            &mut self.wires[place],
+            &mut self.lanes[place],
+            &self.layout,
+            into,
+        )
     }
 
     /// The wires as they are.
-    pub fn into_wires(self) -> Vec<W> {
+    pub fn into_wires(self) -> Vec<W>
+        ensures { map W.told result.items ≡ map (λ l. l.wire) self.lanes }
+    {
         self.wires
     }
 }
@@ -152,4 +196,35 @@ fn read_unit(frame: &[u8], layout: &Layout, into: &mut [u8]) -> UnitHead
         Ok(Head::Ack(_)) => unreachable!(),
         Err(_) => unreachable!(),
     }
+}
+
+/// How many bytes the greatest frame of a format has.
+fn frame_room(layout: &Layout, format: u8) -> usize
+    ensures room { result ≡ frame_room layout.now format }
+    ensures good { IsGood layout.now }
+{
+    let size = layout.max_size() as usize;
+    if format == 1 {
+        24 + size
+    } else {
+        24 + 16 * (20 + size)
+    }
+}
+
+/// Lanes on which nothing is.
+fn new_lanes(alloc: Global, count: usize, room: usize) -> Result<Vec<Lane>, NoMemory>
+    ensures { IfOk result (λ lanes. lanes.items ≡ replicate count (record { bytes = []; room = room; waiting = 0 })) }
+{
+    let Ok(mut lanes) = Vec::with_capacity(alloc, count) else {
+        return Err(NoMemory);
+    };
+    while lanes.len() < count {
+        let Ok(lane) = Lane::new(alloc, room) else {
+            return Err(NoMemory);
+        };
+        let Ok(()) = lanes.push(lane) else {
+            return Err(NoMemory);
+        };
+    }
+    Ok(lanes)
 }

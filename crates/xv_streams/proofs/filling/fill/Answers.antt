@@ -21,7 +21,7 @@ loop-count-preserved g c =
     let same : n + m ≡ c.loop-count.count + m - c.args.have = omega (arith, h.more) in
     let fits : c.args.want ≤ length c.loop-count.buffer = omega (arith, c.loop-count.auto.buffer, c.requires.room) in
     let took = taking-more m n (c.args.want - c.args.have) t now (g.W.Wire.told c.take.new.self) (g.W.Wire.faults c.args.wire.now) (g.W.Wire.faults c.loop-count.wire) (g.W.Wire.faults c.take.new.self)
-        h.taking (omega (arith, h.more, c.loop-count-test.true)) h.there c.in-Ok.ensures.made in
+    h.taking (omega (arith, h.more, c.loop-count-test.true)) h.there c.in-Ok.ensures.made in
     record {
       more = omega (arith, h.more);
       most = omega (arith, most, c.loop-count-test.true);

@@ -61,5 +61,5 @@ returns-in-Ok-true-clause-taken g c =
     let moved : take (length new - 24) c.read_unit-head.new.into ≡ drop 24 new = subst (λ (b : List ℕ). take (length b - 24) c.read_unit-head.new.into ≡ drop 24 b) is c.read_unit-head.ensures.content in
     subst (λ (x : Gathered). MessageTaken s (Ok (Some c.read_unit-head.result)) (take (length (content_of_first (first_group (seen_lane s t f l).groups))) c.read_unit-head.new.into) (seen_lane s t f l) (seen_lane s u k x)) (sym off)
     (receive-some s c.read_unit-head.result (take (length (content_of_first (first_group (seen_lane s t f l).groups))) c.read_unit-head.new.into) l t u new f k first taken
-        (c.read_unit-head.ensures.head ∙ ap front_head is ∙ read.head)
-        (content-moved s l t u new c.read_unit-head.new.into (length c.args.into.now) first read moved))
+    (c.read_unit-head.ensures.head ∙ ap front_head is ∙ read.head)
+    (content-moved s l t u new c.read_unit-head.new.into (length c.args.into.now) first read moved))

@@ -50,7 +50,7 @@ invariant_of-self g c =
     let format : s.format ≡ 1 = subst (λ (v : Streamed). v.format ≡ 1) (sym c.self.view_is) c.requires.format in
     let lane' : IsLaneOf s.layout s.format (told c.receive_message.new.wire) c.receive_message.new.lane = subst (λ (k : ℕ). IsLaneOf s.layout k (told c.receive_message.new.wire) c.receive_message.new.lane) (sym format) c.receive_message.ensures.lane in
     let done : Changed told faults s.layout s.format ws ls c.args.stream c.receive_message.new.wire c.receive_message.new.lane =
-        changed told faults s.layout s.format ws ls c.args.stream c.receive_message.new.wire c.receive_message.new.lane c.self.invariant.0 at.there lane' in
+    changed told faults s.layout s.format ws ls c.args.stream c.receive_message.new.wire c.receive_message.new.lane c.self.invariant.0 at.there lane' in
     (done.lanes, c.self.invariant.1, c.self.invariant.2)
 
 pub returns-clause-others : goal.returns-clause-others
@@ -67,9 +67,9 @@ returns-clause-others g c =
     let format : s.format ≡ 1 = subst (λ (v : Streamed). v.format ≡ 1) (sym c.self.view_is) c.requires.format in
     let lane' : IsLaneOf s.layout s.format (told c.receive_message.new.wire) c.receive_message.new.lane = subst (λ (k : ℕ). IsLaneOf s.layout k (told c.receive_message.new.wire) c.receive_message.new.lane) (sym format) c.receive_message.ensures.lane in
     let done : Changed told faults s.layout s.format ws ls c.args.stream c.receive_message.new.wire c.receive_message.new.lane =
-        changed told faults s.layout s.format ws ls c.args.stream c.receive_message.new.wire c.receive_message.new.lane c.self.invariant.0 at.there lane' in
+    changed told faults s.layout s.format ws ls c.args.stream c.receive_message.new.wire c.receive_message.new.lane c.self.invariant.0 at.there lane' in
     subst (λ (v : Streamed). record { shape = s.layout; format = s.format; lanes = seen_lanes told faults s.layout (set ws c.args.stream c.receive_message.new.wire) (set ls c.args.stream c.receive_message.new.lane) }
-        ≡ record v { lanes = set v.lanes c.args.stream (get_or (seen_lanes told faults s.layout (set ws c.args.stream c.receive_message.new.wire) (set ls c.args.stream c.receive_message.new.lane)) c.args.stream no_lane) }) c.self.view_is
+    ≡ record v { lanes = set v.lanes c.args.stream (get_or (seen_lanes told faults s.layout (set ws c.args.stream c.receive_message.new.wire) (set ls c.args.stream c.receive_message.new.lane)) c.args.stream no_lane) }) c.self.view_is
     (ap (λ (xs : List LaneSeen). record { shape = s.layout; format = s.format; lanes = xs }) done.only)
 
 pub returns-clause-taken : goal.returns-clause-taken
@@ -86,7 +86,7 @@ returns-clause-taken g c =
     let format : s.format ≡ 1 = subst (λ (v : Streamed). v.format ≡ 1) (sym c.self.view_is) c.requires.format in
     let lane' : IsLaneOf s.layout s.format (told c.receive_message.new.wire) c.receive_message.new.lane = subst (λ (k : ℕ). IsLaneOf s.layout k (told c.receive_message.new.wire) c.receive_message.new.lane) (sym format) c.receive_message.ensures.lane in
     let done : Changed told faults s.layout s.format ws ls c.args.stream c.receive_message.new.wire c.receive_message.new.lane =
-        changed told faults s.layout s.format ws ls c.args.stream c.receive_message.new.wire c.receive_message.new.lane c.self.invariant.0 at.there lane' in
+    changed told faults s.layout s.format ws ls c.args.stream c.receive_message.new.wire c.receive_message.new.lane c.self.invariant.0 at.there lane' in
     let after = get_or (seen_lanes told faults s.layout (set ws c.args.stream c.receive_message.new.wire) (set ls c.args.stream c.receive_message.new.lane)) c.args.stream no_lane in
     subst (λ (v : Streamed). MessageTaken v.shape c.receive_message.result (take (length (content_of_first (first_group (lane v c.args.stream).groups))) c.receive_message.new.into) (lane v c.args.stream) after) c.self.view_is
     (subst (λ (x : LaneSeen). MessageTaken s.layout c.receive_message.result (take (length (content_of_first (first_group x.groups))) c.receive_message.new.into) x after) (sym at.seen)

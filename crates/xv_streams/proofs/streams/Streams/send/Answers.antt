@@ -47,7 +47,7 @@ slice_bounds-put_frame-end g c =
     let long : length (spelled fr) ≡ c.encode_unit-size.result = length-unit c.args.head c.args.bytes.now ∙ sym c.encode_unit-size.ensures.count in
     let kept : length c.encode_unit-size.new.into ≡ s.frame.len = c.encode_unit-size.auto.into ∙ c.deref_mut.ensures.len in
     let frame : take c.encode_unit-size.result c.deref.result.now ≡ spelled fr =
-        framed (spelled fr) c.deref_mut.result.now c.encode_unit-size.new.into c.deref.result.now s.frame.items c.encode_unit-size.result s.frame.len c.encode_unit-size.ensures.spelled long c.deref.ensures.value kept in
+    framed (spelled fr) c.deref_mut.result.now c.encode_unit-size.new.into c.deref.result.now s.frame.items c.encode_unit-size.result s.frame.len c.encode_unit-size.ensures.spelled long c.deref.ensures.value kept in
     sym long ∙ ap length (sym frame)
 
 pub put_frame-requires-clause-room : goal.put_frame-requires-clause-room
@@ -65,7 +65,7 @@ put_frame-requires-clause-room g c =
     let long : length (spelled fr) ≡ c.encode_unit-size.result = length-unit c.args.head c.args.bytes.now ∙ sym c.encode_unit-size.ensures.count in
     let kept : length c.encode_unit-size.new.into ≡ s.frame.len = c.encode_unit-size.auto.into ∙ c.deref_mut.ensures.len in
     let frame : take c.encode_unit-size.result c.deref.result.now ≡ spelled fr =
-        framed (spelled fr) c.deref_mut.result.now c.encode_unit-size.new.into c.deref.result.now s.frame.items c.encode_unit-size.result s.frame.len c.encode_unit-size.ensures.spelled long c.deref.ensures.value kept in
+    framed (spelled fr) c.deref_mut.result.now c.encode_unit-size.new.into c.deref.result.now s.frame.items c.encode_unit-size.result s.frame.len c.encode_unit-size.ensures.spelled long c.deref.ensures.value kept in
     subst (λ (b : List ℕ). MayCall (PutBytes b) (told w)) (sym frame)
     (subst (λ (x : LaneSeen). MayCall (PutBytes (spelled fr)) x.wire) at.seen (subst (λ (v : Streamed). MayCall (PutBytes (spelled fr)) (lane v c.args.stream).wire) (sym c.self.view_is) c.requires.room))
 
@@ -84,7 +84,7 @@ put_frame-requires-clause-few g c =
     let long : length (spelled fr) ≡ c.encode_unit-size.result = length-unit c.args.head c.args.bytes.now ∙ sym c.encode_unit-size.ensures.count in
     let kept : length c.encode_unit-size.new.into ≡ s.frame.len = c.encode_unit-size.auto.into ∙ c.deref_mut.ensures.len in
     let frame : take c.encode_unit-size.result c.deref.result.now ≡ spelled fr =
-        framed (spelled fr) c.deref_mut.result.now c.encode_unit-size.new.into c.deref.result.now s.frame.items c.encode_unit-size.result s.frame.len c.encode_unit-size.ensures.spelled long c.deref.ensures.value kept in
+    framed (spelled fr) c.deref_mut.result.now c.encode_unit-size.new.into c.deref.result.now s.frame.items c.encode_unit-size.result s.frame.len c.encode_unit-size.ensures.spelled long c.deref.ensures.value kept in
     few-frames s.layout s.format (told w) l at.lane
 
 pub put_frame-requires-clause-short : goal.put_frame-requires-clause-short
@@ -102,7 +102,7 @@ put_frame-requires-clause-short g c =
     let long : length (spelled fr) ≡ c.encode_unit-size.result = length-unit c.args.head c.args.bytes.now ∙ sym c.encode_unit-size.ensures.count in
     let kept : length c.encode_unit-size.new.into ≡ s.frame.len = c.encode_unit-size.auto.into ∙ c.deref_mut.ensures.len in
     let frame : take c.encode_unit-size.result c.deref.result.now ≡ spelled fr =
-        framed (spelled fr) c.deref_mut.result.now c.encode_unit-size.new.into c.deref.result.now s.frame.items c.encode_unit-size.result s.frame.len c.encode_unit-size.ensures.spelled long c.deref.ensures.value kept in
+    framed (spelled fr) c.deref_mut.result.now c.encode_unit-size.new.into c.deref.result.now s.frame.items c.encode_unit-size.result s.frame.len c.encode_unit-size.ensures.spelled long c.deref.ensures.value kept in
     omega (arith, short-lane s.layout s.format (told w) l c.self.invariant.1 at.lane)
 
 pub invariant_of-self : goal.invariant_of-self
@@ -120,18 +120,18 @@ invariant_of-self g c =
     let long : length (spelled fr) ≡ c.encode_unit-size.result = length-unit c.args.head c.args.bytes.now ∙ sym c.encode_unit-size.ensures.count in
     let kept : length c.encode_unit-size.new.into ≡ s.frame.len = c.encode_unit-size.auto.into ∙ c.deref_mut.ensures.len in
     let frame : take c.encode_unit-size.result c.deref.result.now ≡ spelled fr =
-        framed (spelled fr) c.deref_mut.result.now c.encode_unit-size.new.into c.deref.result.now s.frame.items c.encode_unit-size.result s.frame.len c.encode_unit-size.ensures.spelled long c.deref.ensures.value kept in
+    framed (spelled fr) c.deref_mut.result.now c.encode_unit-size.new.into c.deref.result.now s.frame.items c.encode_unit-size.result s.frame.len c.encode_unit-size.ensures.spelled long c.deref.ensures.value kept in
     let unit : c.args.head.unit.0 < units s.layout = subst (λ (v : Streamed). c.args.head.unit.0 < units v.shape) (sym c.self.view_is) c.requires.unit_in in
     let whole : length c.args.bytes.now ≡ size s.layout c.args.head.unit.0 = subst (λ (v : Streamed). length c.args.bytes.now ≡ size v.shape c.args.head.unit.0) (sym c.self.view_is) c.requires.whole in
     let format : s.format ≡ 1 = subst (λ (v : Streamed). v.format ≡ 1) (sym c.self.view_is) c.requires.format in
     let good : IsFrame s.layout fr = record { unit_in = unit; made = c.requires.made; version_fits = search (rules, c.type_inv); at_fits = search (rules, c.type_inv); whole = whole } in
     let fits : length (spelled fr) ≤ l.room = omega (arith, unit-room s.layout s.format c.args.head.unit.0 c.self.invariant.1 format unit, whole, at.lane.roomy, length-unit c.args.head c.args.bytes.now) in
     let made : CallMade (PutBytes (spelled fr)) (is_err c.put_frame.result) (told w) (told c.put_frame.new.wire) (faults w) (faults c.put_frame.new.wire) =
-        subst (λ (b : List ℕ). CallMade (PutBytes b) (is_err c.put_frame.result) (told w) (told c.put_frame.new.wire) (faults w) (faults c.put_frame.new.wire)) frame c.put_frame.ensures.made in
+    subst (λ (b : List ℕ). CallMade (PutBytes b) (is_err c.put_frame.result) (told w) (told c.put_frame.new.wire) (faults w) (faults c.put_frame.new.wire)) frame c.put_frame.ensures.made in
     let is : IsPut s.layout s.format fr (is_err c.put_frame.result) (told w) (told c.put_frame.new.wire) (faults w) (faults c.put_frame.new.wire) l c.put_frame.new.lane =
-        put-lane s.layout s.format fr (is_err c.put_frame.result) (told w) (told c.put_frame.new.wire) (faults w) (faults c.put_frame.new.wire) l c.put_frame.new.lane c.self.invariant.1 at.lane good (sym format) fits made c.put_frame.ensures.counted in
+    put-lane s.layout s.format fr (is_err c.put_frame.result) (told w) (told c.put_frame.new.wire) (faults w) (faults c.put_frame.new.wire) l c.put_frame.new.lane c.self.invariant.1 at.lane good (sym format) fits made c.put_frame.ensures.counted in
     let done : Changed told faults s.layout s.format ws ls c.args.stream c.put_frame.new.wire c.put_frame.new.lane =
-        changed told faults s.layout s.format ws ls c.args.stream c.put_frame.new.wire c.put_frame.new.lane c.self.invariant.0 at.there is.lane in
+    changed told faults s.layout s.format ws ls c.args.stream c.put_frame.new.wire c.put_frame.new.lane c.self.invariant.0 at.there is.lane in
     (done.lanes, c.self.invariant.1, ap length (take_at c.encode_unit-size.new.into (drop (length c.encode_unit-size.new.into) s.frame.items) s.frame.len kept) ∙ kept ∙ s.frame.ok.0 ∙ c.self.invariant.2)
 
 pub returns-clause-others : goal.returns-clause-others
@@ -149,20 +149,20 @@ returns-clause-others g c =
     let long : length (spelled fr) ≡ c.encode_unit-size.result = length-unit c.args.head c.args.bytes.now ∙ sym c.encode_unit-size.ensures.count in
     let kept : length c.encode_unit-size.new.into ≡ s.frame.len = c.encode_unit-size.auto.into ∙ c.deref_mut.ensures.len in
     let frame : take c.encode_unit-size.result c.deref.result.now ≡ spelled fr =
-        framed (spelled fr) c.deref_mut.result.now c.encode_unit-size.new.into c.deref.result.now s.frame.items c.encode_unit-size.result s.frame.len c.encode_unit-size.ensures.spelled long c.deref.ensures.value kept in
+    framed (spelled fr) c.deref_mut.result.now c.encode_unit-size.new.into c.deref.result.now s.frame.items c.encode_unit-size.result s.frame.len c.encode_unit-size.ensures.spelled long c.deref.ensures.value kept in
     let unit : c.args.head.unit.0 < units s.layout = subst (λ (v : Streamed). c.args.head.unit.0 < units v.shape) (sym c.self.view_is) c.requires.unit_in in
     let whole : length c.args.bytes.now ≡ size s.layout c.args.head.unit.0 = subst (λ (v : Streamed). length c.args.bytes.now ≡ size v.shape c.args.head.unit.0) (sym c.self.view_is) c.requires.whole in
     let format : s.format ≡ 1 = subst (λ (v : Streamed). v.format ≡ 1) (sym c.self.view_is) c.requires.format in
     let good : IsFrame s.layout fr = record { unit_in = unit; made = c.requires.made; version_fits = search (rules, c.type_inv); at_fits = search (rules, c.type_inv); whole = whole } in
     let fits : length (spelled fr) ≤ l.room = omega (arith, unit-room s.layout s.format c.args.head.unit.0 c.self.invariant.1 format unit, whole, at.lane.roomy, length-unit c.args.head c.args.bytes.now) in
     let made : CallMade (PutBytes (spelled fr)) (is_err c.put_frame.result) (told w) (told c.put_frame.new.wire) (faults w) (faults c.put_frame.new.wire) =
-        subst (λ (b : List ℕ). CallMade (PutBytes b) (is_err c.put_frame.result) (told w) (told c.put_frame.new.wire) (faults w) (faults c.put_frame.new.wire)) frame c.put_frame.ensures.made in
+    subst (λ (b : List ℕ). CallMade (PutBytes b) (is_err c.put_frame.result) (told w) (told c.put_frame.new.wire) (faults w) (faults c.put_frame.new.wire)) frame c.put_frame.ensures.made in
     let is : IsPut s.layout s.format fr (is_err c.put_frame.result) (told w) (told c.put_frame.new.wire) (faults w) (faults c.put_frame.new.wire) l c.put_frame.new.lane =
-        put-lane s.layout s.format fr (is_err c.put_frame.result) (told w) (told c.put_frame.new.wire) (faults w) (faults c.put_frame.new.wire) l c.put_frame.new.lane c.self.invariant.1 at.lane good (sym format) fits made c.put_frame.ensures.counted in
+    put-lane s.layout s.format fr (is_err c.put_frame.result) (told w) (told c.put_frame.new.wire) (faults w) (faults c.put_frame.new.wire) l c.put_frame.new.lane c.self.invariant.1 at.lane good (sym format) fits made c.put_frame.ensures.counted in
     let done : Changed told faults s.layout s.format ws ls c.args.stream c.put_frame.new.wire c.put_frame.new.lane =
-        changed told faults s.layout s.format ws ls c.args.stream c.put_frame.new.wire c.put_frame.new.lane c.self.invariant.0 at.there is.lane in
+    changed told faults s.layout s.format ws ls c.args.stream c.put_frame.new.wire c.put_frame.new.lane c.self.invariant.0 at.there is.lane in
     subst (λ (v : Streamed). record { shape = s.layout; format = s.format; lanes = seen_lanes told faults s.layout (set ws c.args.stream c.put_frame.new.wire) (set ls c.args.stream c.put_frame.new.lane) }
-        ≡ record v { lanes = set v.lanes c.args.stream (get_or (seen_lanes told faults s.layout (set ws c.args.stream c.put_frame.new.wire) (set ls c.args.stream c.put_frame.new.lane)) c.args.stream no_lane) }) c.self.view_is
+    ≡ record v { lanes = set v.lanes c.args.stream (get_or (seen_lanes told faults s.layout (set ws c.args.stream c.put_frame.new.wire) (set ls c.args.stream c.put_frame.new.lane)) c.args.stream no_lane) }) c.self.view_is
     (ap (λ (xs : List LaneSeen). record { shape = s.layout; format = s.format; lanes = xs }) done.only)
 
 pub returns-clause-put : goal.returns-clause-put
@@ -180,18 +180,18 @@ returns-clause-put g c =
     let long : length (spelled fr) ≡ c.encode_unit-size.result = length-unit c.args.head c.args.bytes.now ∙ sym c.encode_unit-size.ensures.count in
     let kept : length c.encode_unit-size.new.into ≡ s.frame.len = c.encode_unit-size.auto.into ∙ c.deref_mut.ensures.len in
     let frame : take c.encode_unit-size.result c.deref.result.now ≡ spelled fr =
-        framed (spelled fr) c.deref_mut.result.now c.encode_unit-size.new.into c.deref.result.now s.frame.items c.encode_unit-size.result s.frame.len c.encode_unit-size.ensures.spelled long c.deref.ensures.value kept in
+    framed (spelled fr) c.deref_mut.result.now c.encode_unit-size.new.into c.deref.result.now s.frame.items c.encode_unit-size.result s.frame.len c.encode_unit-size.ensures.spelled long c.deref.ensures.value kept in
     let unit : c.args.head.unit.0 < units s.layout = subst (λ (v : Streamed). c.args.head.unit.0 < units v.shape) (sym c.self.view_is) c.requires.unit_in in
     let whole : length c.args.bytes.now ≡ size s.layout c.args.head.unit.0 = subst (λ (v : Streamed). length c.args.bytes.now ≡ size v.shape c.args.head.unit.0) (sym c.self.view_is) c.requires.whole in
     let format : s.format ≡ 1 = subst (λ (v : Streamed). v.format ≡ 1) (sym c.self.view_is) c.requires.format in
     let good : IsFrame s.layout fr = record { unit_in = unit; made = c.requires.made; version_fits = search (rules, c.type_inv); at_fits = search (rules, c.type_inv); whole = whole } in
     let fits : length (spelled fr) ≤ l.room = omega (arith, unit-room s.layout s.format c.args.head.unit.0 c.self.invariant.1 format unit, whole, at.lane.roomy, length-unit c.args.head c.args.bytes.now) in
     let made : CallMade (PutBytes (spelled fr)) (is_err c.put_frame.result) (told w) (told c.put_frame.new.wire) (faults w) (faults c.put_frame.new.wire) =
-        subst (λ (b : List ℕ). CallMade (PutBytes b) (is_err c.put_frame.result) (told w) (told c.put_frame.new.wire) (faults w) (faults c.put_frame.new.wire)) frame c.put_frame.ensures.made in
+    subst (λ (b : List ℕ). CallMade (PutBytes b) (is_err c.put_frame.result) (told w) (told c.put_frame.new.wire) (faults w) (faults c.put_frame.new.wire)) frame c.put_frame.ensures.made in
     let is : IsPut s.layout s.format fr (is_err c.put_frame.result) (told w) (told c.put_frame.new.wire) (faults w) (faults c.put_frame.new.wire) l c.put_frame.new.lane =
-        put-lane s.layout s.format fr (is_err c.put_frame.result) (told w) (told c.put_frame.new.wire) (faults w) (faults c.put_frame.new.wire) l c.put_frame.new.lane c.self.invariant.1 at.lane good (sym format) fits made c.put_frame.ensures.counted in
+    put-lane s.layout s.format fr (is_err c.put_frame.result) (told w) (told c.put_frame.new.wire) (faults w) (faults c.put_frame.new.wire) l c.put_frame.new.lane c.self.invariant.1 at.lane good (sym format) fits made c.put_frame.ensures.counted in
     let done : Changed told faults s.layout s.format ws ls c.args.stream c.put_frame.new.wire c.put_frame.new.lane =
-        changed told faults s.layout s.format ws ls c.args.stream c.put_frame.new.wire c.put_frame.new.lane c.self.invariant.0 at.there is.lane in
+    changed told faults s.layout s.format ws ls c.args.stream c.put_frame.new.wire c.put_frame.new.lane c.self.invariant.0 at.there is.lane in
     let before : lane c.args.self.now c.args.stream ≡ seen_lane s.layout (told w) (faults w) l = subst (λ (v : Streamed). lane v c.args.stream ≡ seen_lane s.layout (told w) (faults w) l) c.self.view_is at.seen in
     subst (λ (x : LaneSeen). FramePut fr (is_err c.put_frame.result) x (get_or (seen_lanes told faults s.layout (set ws c.args.stream c.put_frame.new.wire) (set ls c.args.stream c.put_frame.new.lane)) c.args.stream no_lane)) (sym before)
     (subst (λ (y : LaneSeen). FramePut fr (is_err c.put_frame.result) (seen_lane s.layout (told w) (faults w) l) y) (sym done.seen) is.seen)
