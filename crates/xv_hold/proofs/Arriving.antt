@@ -92,13 +92,13 @@ module _ (s : State) (h : IsKept s) (slot : ℕ) (free : List ℕ) (at : ℕ) (h
   arrived-once : ArrivedOnce (arrived_state s slot free at head bytes).slots
   arrived-once k j g f is there same = ⊎_elim
       (λ new. ⊎_elim
-          (λ new'. new.0 ∙ sym new'.0)
-          (λ old. let own = ap (λ x. x.arrival) new.1 in absurd (omega (arith, (h.held_in j f old.1).numbered)))
-          (cases j f there))
+      (λ new'. new.0 ∙ sym new'.0)
+      (λ old. let own = ap (λ x. x.arrival) new.1 in absurd (omega (arith, (h.held_in j f old.1).numbered)))
+      (cases j f there))
       (λ old. ⊎_elim
-          (λ new'. let own = ap (λ x. x.arrival) new'.1 in absurd (omega (arith, (h.held_in k g old.1).numbered)))
-          (λ old'. h.arrived_once k j g f old.1 old'.1 same)
-          (cases j f there))
+      (λ new'. let own = ap (λ x. x.arrival) new'.1 in absurd (omega (arith, (h.held_in k g old.1).numbered)))
+      (λ old'. h.arrived_once k j g f old.1 old'.1 same)
+      (cases j f there))
       (cases k g is)
 
   not-held : (k : ℕ) (g : Held) → in_slot s.slots k ≡ Some g → g.head.unit.0 ≡ head.unit.0 → g.head.version ≢ head.version
@@ -108,13 +108,13 @@ module _ (s : State) (h : IsKept s) (slot : ℕ) (free : List ℕ) (at : ℕ) (h
       → g.head.unit.0 ≡ f.head.unit.0 → g.head.version ≡ f.head.version → k ≡ j
   version-once k j g f is there unit version = ⊎_elim
       (λ new. ⊎_elim
-          (λ new'. new.0 ∙ sym new'.0)
-          (λ old. absurd (not-held j f old.1 (sym unit ∙ ap (λ x. x.head.unit.0) new.1) (sym version ∙ ap (λ x. x.head.version) new.1)))
-          (cases j f there))
+      (λ new'. new.0 ∙ sym new'.0)
+      (λ old. absurd (not-held j f old.1 (sym unit ∙ ap (λ x. x.head.unit.0) new.1) (sym version ∙ ap (λ x. x.head.version) new.1)))
+      (cases j f there))
       (λ old. ⊎_elim
-          (λ new'. absurd (not-held k g old.1 (unit ∙ ap (λ x. x.head.unit.0) new'.1) (version ∙ ap (λ x. x.head.version) new'.1)))
-          (λ old'. h.version_once k j g f old.1 old'.1 unit version)
-          (cases j f there))
+      (λ new'. absurd (not-held k g old.1 (unit ∙ ap (λ x. x.head.unit.0) new'.1) (version ∙ ap (λ x. x.head.version) new'.1)))
+      (λ old'. h.version_once k j g f old.1 old'.1 unit version)
+      (cases j f there))
       (cases k g is)
 
   -- the slots in order of arrival, with the new one last

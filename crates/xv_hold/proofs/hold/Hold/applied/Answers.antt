@@ -63,9 +63,10 @@ first-is c = let all = c.self.invariant.0.slot_each in omega arith
 pub invariant_of-self : goal.invariant_of-self
 invariant_of-self c =
     let kept : IsKept (written_state (state_of c.self.inside) c.args.slot c.head-version.result) =
-    subst (λ (x : UnitHead). IsKept (written_state (state_of c.self.inside) c.args.slot x)) (head-read c) (written-kept (state_of c.self.inside) c.self.invariant.0 c.args.slot (ready c) (small c)) in
-    (rw (c.make_ready.ensures, c.deref.ensures.value, c.set.ensures, c.in-Ok.ensures.items, first-is c, link-read c) kept,
-    omega (arith, c.self.invariant.1, c.in-Ok.ensures.capacity))
+    subst (λ (x : UnitHead). IsKept (written_state (state_of c.self.inside) c.args.slot x)) (head-read c) (written-kept (state_of c.self.inside) c.self.invariant.0 c.args.slot (ready c) (small c)) in (
+      rw (c.make_ready.ensures, c.deref.ensures.value, c.set.ensures, c.in-Ok.ensures.items, first-is c, link-read c) kept,
+      omega (arith, c.self.invariant.1, c.in-Ok.ensures.capacity),
+    )
 
 pub returns : goal.returns
 returns c =
