@@ -1,0 +1,4 @@
+pub mod Words
+pub mod Summing
+pub mod Members
+pub mod Kept

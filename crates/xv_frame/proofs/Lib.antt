@@ -1,0 +1,11 @@
+pub mod Numbers
+pub mod WhatTestsSay
+pub mod ReadHeads
+pub mod Putting
+pub mod Written
+pub mod Entries
+pub mod Sound
+pub mod EntriesSound
+pub mod Accepted
+pub mod Faultless
+pub mod EntryFits

@@ -1,0 +1,5 @@
+use Rattle.xv_handover.proofs.Sound.{after_holds, first_holds}
+use Rattle.xv_handover.proofs.laws.never_two_owners.Goals as goal
+
+pub returns : goal.returns
+returns c = λ events. (after_holds _ events first_holds).safe

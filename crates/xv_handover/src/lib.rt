@@ -1,0 +1,30 @@
+// Two separate nodes hand a guest over, by messages that may be lost, repeated and reordered, and each may restart
+// from what it keeps.
+//
+// Contracts see a node as what it keeps, its keeper's count of faults, and whether its keeper is steady; node A also
+// as whether it has offered. The layer above may rely on this: each call of a node does what its table says, or
+// changes nothing; over every list of calls, deliveries and restarts the two nodes never both own the guest; and when
+// node B becomes the owner its number is that of node A's offer. That a handover is ever decided is not promised.
+#![tactic(auto)]
+
+mod keeper;
+mod kept;
+mod laws;
+mod memory;
+mod message;
+mod node_a;
+mod node_b;
+mod play;
+#[cfg(test)]
+mod tests;
+mod world;
+
+pub use keeper::Keeper;
+pub use kept::{KeptA, KeptB, Stage};
+pub use laws::{messages_stay_true, never_two_owners, owner_has_the_offered_number};
+pub use memory::MemKeeper;
+pub use message::{Kind, Message, Reply};
+pub use node_a::NodeA;
+pub use node_b::NodeB;
+pub use play::play_world;
+pub use world::{World, WorldEvent};

@@ -1,0 +1,9 @@
+pub mod Matches
+pub mod Walk
+pub mod Places
+pub mod FirstReady
+pub mod Fresh
+pub mod Linking
+pub mod Chained
+pub mod Arriving
+pub mod Writing

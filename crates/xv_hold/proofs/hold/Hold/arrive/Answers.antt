@@ -1,0 +1,89 @@
+use Rattle.std.proofs.Common.{rules, ◌≡◌, ◌+◌, ◌<◌, ◌≤◌, ◌∷◌, length, get_or, subst, sym, ap, ◌∙◌, arith, None}
+use Rattle.std.proofs.lemmas.List.{get_or_read}
+use Rattle.xv_base.specs.Units.{units, size}
+use Rattle.xv_hold.specs.Messages.{Hold, version, copies}
+use Rattle.xv_hold.specs.Fields.{state_of}
+use Rattle.xv_hold.specs.Kept.{seen_of}
+use Rattle.xv_hold.specs.Chains.{link, IsLastBelow}
+use Rattle.xv_hold.proofs.Chained.{walkable}
+use Rattle.xv_hold.proofs.FirstReady.{size-fits, ready-length}
+use Rattle.xv_hold.proofs.Arriving.{Arrives, seen-more, arrived-kept, popped-in, arrivals-fit}
+use Rattle.xv_hold.proofs.hold.Hold.arrive.Goals as goal
+
+pub link_below-before-requires : goal.link_below-before-requires
+link_below-before-requires c =
+    let h = c.self.invariant.0 in
+    let unit : c.args.head.unit.0 < units c.self.inside.layout = subst (λ (v : Hold). c.args.head.unit.0 < units v.shape) (sym c.self.view_is) c.requires.unit_in in
+    rw (c.deref.ensures.value, c.deref-2.ensures.value)
+    (walkable c.self.inside.slots.items c.self.inside.links.items c.self.inside.applied.items h.chained (omega (arith, h.link_each, h.slot_each, h.applied_each)) c.args.head.unit.0 (omega (arith, h.applied_each)))
+
+pub index_mut-requires : goal.index_mut-requires
+index_mut-requires c =
+    let h = c.self.invariant.0 in
+    let within = popped-in (state_of c.self.inside) h c.in-Some.slot _ c.in-Some.ensures.items in
+    let all = h.link_each in
+    search rules
+
+pub index_mut-requires-3 : goal.index_mut-requires-3
+index_mut-requires-3 c =
+    let h = c.self.invariant.0 in
+    let within = popped-in (state_of c.self.inside) h c.in-Some.slot _ c.in-Some.ensures.items in
+    let all = h.slot_each in
+    search rules
+
+pub put-requires-clause-slot_in : goal.put-requires-clause-slot_in
+put-requires-clause-slot_in c =
+    let h = c.self.invariant.0 in
+    omega (arith, popped-in (state_of c.self.inside) h c.in-Some.slot _ c.in-Some.ensures.items, h.row_each)
+
+pub put-requires-clause-fits : goal.put-requires-clause-fits
+put-requires-clause-fits c =
+    let unit : c.args.head.unit.0 < units c.self.inside.layout = subst (λ (v : Hold). c.args.head.unit.0 < units v.shape) (sym c.self.view_is) c.requires.unit_in in
+    let whole : length c.args.bytes.now ≡ size c.self.inside.layout c.args.head.unit.0 = subst (λ (v : Hold). length c.args.bytes.now ≡ size v.shape c.args.head.unit.0) (sym c.self.view_is) c.requires.whole in
+    omega (arith, size-fits (state_of c.self.inside) c.self.invariant.0 c.args.head.unit.0 unit)
+
+pub set-requires : goal.set-requires
+set-requires c =
+    let h = c.self.invariant.0 in
+    omega (arith, popped-in (state_of c.self.inside) h c.in-Some.slot _ c.in-Some.ensures.items, h.slot_each, ready-length (state_of c.self.inside) h)
+
+pub overflow_add-self : goal.overflow_add-self
+overflow_add-self c =
+    let room : length (seen_of (state_of c.self.inside)).messages < c.self.inside.limit = subst (λ (v : Hold). length v.messages < v.limit) (sym c.self.view_is) c.requires.room in
+    let fits = arrivals-fit (state_of c.self.inside) c.self.invariant.0 room in
+    search rules
+
+-- the message arrives in the slot that was taken, where the walk has found its place
+arrives : (c : goal.After-self-4-1) → Arrives (state_of c.self.inside) c.in-Some.slot c.pop.new.self.items c.link_below-before.result c.args.head c.args.bytes.now
+arrives c = record {
+  popped = c.in-Some.ensures.items;
+  place = subst (λ l. IsLastBelow c.self.inside.slots.items l c.args.head.unit.0 c.args.head.version c.link_below-before.result) c.deref-2.ensures.value
+      (subst (λ xs. IsLastBelow xs c.deref-2.result.now c.args.head.unit.0 c.args.head.version c.link_below-before.result) c.deref.ensures.value c.link_below-before.ensures);
+  unit_in = subst (λ (v : Hold). c.args.head.unit.0 < units v.shape) (sym c.self.view_is) c.requires.unit_in;
+  whole = subst (λ (v : Hold). length c.args.bytes.now ≡ size v.shape c.args.head.unit.0) (sym c.self.view_is) c.requires.whole;
+  unwritten = subst (λ (v : Hold). version v c.args.head.unit.0 < c.args.head.version) (sym c.self.view_is) c.requires.unwritten;
+  not_held = subst (λ (v : Hold). copies v c.args.head.unit.0 c.args.head.version ≡ 0) (sym c.self.view_is) c.requires.not_held;
+}
+
+-- what was read of the links and of the versions
+link-read : (c : goal.After-self-4-1) → c.index.result.now ≡ link c.self.inside.links.items c.link_below-before.result
+link-read c = get_or_read c.self.inside.links.items c.link_below-before.result c.index.result.now (arrives c).place.link_in c.index.ensures None
+
+version-read : (c : goal.After-self-4-1) → c.index-version.result.now ≡ get_or c.self.inside.applied.items c.args.head.unit.0 0
+version-read c =
+    let within : c.args.head.unit.0 < length c.self.inside.applied.items = omega (arith, (arrives c).unit_in, c.self.invariant.0.applied_each) in
+    get_or_read c.self.inside.applied.items c.args.head.unit.0 c.index-version.result.now within c.index-version.ensures 0
+
+pub invariant_of-self : goal.invariant_of-self
+invariant_of-self c =
+    let a = arrives c in (
+      rw (c.put.ensures, c.set.ensures, c.ready_after.ensures, version-read c, link-read c)
+          (arrived-kept (state_of c.self.inside) c.self.invariant.0 c.in-Some.slot c.pop.new.self.items c.link_below-before.result c.args.head c.args.bytes.now a),
+      omega (arith, c.self.invariant.1, c.in-Some.ensures.capacity),
+    )
+
+pub returns : goal.returns
+returns c =
+    let a = arrives c in
+    rw (← c.self.view_is, c.put.ensures)
+    (seen-more (state_of c.self.inside) c.self.invariant.0 c.in-Some.slot c.pop.new.self.items c.link_below-before.result c.args.head c.args.bytes.now a)

@@ -1,0 +1,4 @@
+pub mod Taking
+pub mod Lanes
+pub mod Gathered
+pub mod Streamed

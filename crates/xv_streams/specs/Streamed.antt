@@ -1,0 +1,107 @@
+-- What is seen of some streams.
+use Rattle.std.specs.Prelude.{◌≡◌, ℕ, ◌+◌, ◌*◌, ◌-◌, ◌<◌, ◌≤◌, ◌==◌, Bool, false, List, [], ◌∷◌, ◌++◌, length, map, set, drop, get_or, Option, Some, None, Result, IfOk, IfErr, IfSome, is_err, ⊤, if◌then◌else◌}
+use Rattle.xv_base.specs.declared.operation.UnitHead.{UnitHead}
+use Rattle.xv_base.specs.declared.unit.Failed.{Failed}
+use Rattle.xv_base.specs.Units.{Shape, units, size, max_size}
+use Rattle.xv_frame.specs.Frame.{Message, message, Frame, UnitFrame, AckFrame, GroupFrame, Each, spelled}
+use Rattle.xv_frame.specs.Reading.{frames_in}
+use Rattle.xv_wire.specs.Wire.{PutBytes}
+use Rattle.xv_wire.specs.Told.{Told, CallMade}
+use Rattle.xv_streams.specs.Gathered.{Gathered}
+use Rattle.xv_streams.specs.Taking.{TakesMade}
+use Rattle.xv_streams.specs.Lanes.{IsLane, wanted}
+
+-- one stream: the groups of messages on the way, in order, the bytes gathered of the first, and its wire
+pub record LaneSeen : Type 0 where
+  pub groups : List (List Message)
+  pub gathered : List ℕ
+  pub wire : Told
+  pub faults : ℕ
+
+-- the layout, the format of the frames, and the streams
+pub record Streamed : Type 0 where
+  pub shape : Shape
+  pub format : ℕ
+  pub lanes : List LaneSeen
+
+-- the messages of a frame, and the format that it is of
+abbrev pub messages_of : Frame → List Message
+messages_of (UnitFrame m) = m ∷ []
+messages_of (AckFrame count) = []
+messages_of (GroupFrame messages) = messages
+
+abbrev pub format_of : Frame → ℕ
+format_of (UnitFrame m) = 1
+format_of (AckFrame count) = 0
+format_of (GroupFrame messages) = 2
+
+-- how many bytes the greatest frame has
+abbrev pub frame_room : Shape → ℕ → ℕ
+frame_room s format = if format == 1 then 24 + max_size s else 24 + 16 * (20 + max_size s)
+
+abbrev pub seen_lane : Shape → Told → ℕ → Gathered → LaneSeen
+seen_lane s told failed l = record { groups = map messages_of (frames_in s (l.bytes ++ told.transit)); gathered = l.bytes; wire = told; faults = failed }
+
+abbrev pub seen_lanes : {A : Type 0} → (A → Told) → (A → ℕ) → Shape → List A → List Gathered → List LaneSeen
+seen_lanes t f s [] ls = []
+seen_lanes t f s (w ∷ ws) [] = []
+seen_lanes t f s (w ∷ ws) (l ∷ ls) = seen_lane s (t w) (f w) l ∷ seen_lanes t f s ws ls
+
+-- the frames on a stream are of the format, and as many as are counted
+pub record IsLaneOf (s : Shape) (format : ℕ) (told : Told) (l : Gathered) : Type 0 where
+  pub lane : IsLane s l.room l.bytes told.transit
+  pub kinds : Each (λ f. format_of f ≡ format) (frames_in s (l.bytes ++ told.transit))
+  pub counted : l.waiting ≡ length (frames_in s (l.bytes ++ told.transit))
+  pub roomy : l.room ≡ frame_room s format
+
+abbrev pub AreLanesOf : {A : Type 0} → (A → Told) → Shape → ℕ → List A → List Gathered → Type 0
+AreLanesOf t s format [] [] = ⊤
+AreLanesOf t s format [] (l ∷ ls) = ⊥
+AreLanesOf t s format (w ∷ ws) [] = ⊥
+AreLanesOf t s format (w ∷ ws) (l ∷ ls) = IsLaneOf s format (t w) l × AreLanesOf t s format ws ls
+
+-- what stands for a stream that is not there
+abbrev pub no_lane : LaneSeen
+no_lane = record { groups = []; gathered = []; wire = record { capacity = 0; transit = []; counted = None }; faults = 0 }
+
+abbrev pub lane : Streamed → ℕ → LaneSeen
+lane s k = get_or s.lanes k no_lane
+
+-- all stayed as it was but for this stream
+abbrev pub OnlyLane : ℕ → Streamed → Streamed → Type 0
+OnlyLane k old new = new ≡ record old { lanes = set old.lanes k (lane new k) }
+
+-- the first message of a group, and its content
+abbrev pub head_of_first : List Message → Option UnitHead
+head_of_first [] = None
+head_of_first (m ∷ ms) = Some m.head
+
+abbrev pub content_of_first : List Message → List ℕ
+content_of_first [] = []
+content_of_first (m ∷ ms) = m.content
+
+-- the first group on a stream
+abbrev pub first_group : List (List Message) → List Message
+first_group [] = []
+first_group (g ∷ gs) = g
+
+-- a frame was put on a stream, or the put failed
+pub record FramePut (f : Frame) (failed : Bool) (old new : LaneSeen) : Type 0 where
+  pub groups : new.groups ≡ (if failed then old.groups else old.groups ++ messages_of f ∷ [])
+  pub gathered : new.gathered ≡ old.gathered
+  pub made : CallMade (PutBytes (spelled f)) failed old.wire new.wire old.faults new.faults
+
+-- a message was taken off a stream, or there was none, or a take failed; what is gathered stays, and the calls of the wire
+-- were the takes of so many bytes
+pub record MessageTaken (s : Shape) (result : Result (Option UnitHead) Failed) (content : List ℕ) (old new : LaneSeen) : Type 0 where
+  pub groups : new.groups ≡ (if is_err result then old.groups else drop 1 old.groups)
+  pub answer : IfOk result (λ it. it ≡ head_of_first (first_group old.groups))
+  pub content_is : IfOk result (λ it. content ≡ content_of_first (first_group old.groups))
+  pub in_range : IfOk result (λ it. IfSome it (λ h. (h.unit.0 < units s) × (length content ≡ size s h.unit.0)))
+  pub gathered : IfOk result (λ it. new.gathered ≡ [])
+  pub kept : IfErr result (λ e. new.gathered ++ new.wire.transit ≡ old.gathered ++ old.wire.transit)
+  pub made : TakesMade (length old.wire.transit - length new.wire.transit) (is_err result) (wanted (frames_in s (old.gathered ++ old.wire.transit)) (length old.gathered)) old.wire new.wire old.faults new.faults
+
+-- a stream on which nothing is
+abbrev pub fresh_lane : Told → ℕ → LaneSeen
+fresh_lane told failed = record { groups = []; gathered = []; wire = told; faults = failed }

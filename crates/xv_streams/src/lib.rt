@@ -1,0 +1,19 @@
+// Messages in frames over some wires, and acknowledgements over one back.
+//
+// Contracts see each stream as the list of its groups of messages, in order, beside what its wire tells and the bytes that
+// were gathered of a frame that is not whole yet: the bytes gathered and those in transit are the spellings of the groups.
+// The layer above may rely on this: a send appends a group, a receipt takes the first one off, a call that fails changes no
+// list, and no call of one stream touches another. Only `Streams::new` takes memory.
+#![tactic(auto)]
+
+mod filling;
+mod framing;
+mod lane;
+mod streams;
+#[cfg(test)]
+mod tests;
+
+pub use filling::{Filled, fill};
+pub use framing::fill_frame;
+pub use lane::Lane;
+pub use streams::Streams;

@@ -1,0 +1,230 @@
+//! Streams of messages over some wires.
+
+ghost use Rattle.std.specs.Prelude.{◌≡◌, ℕ, false, ◌+◌, ◌-◌, ◌*◌, ◌<◌, ◌≤◌, ◌^◌, [], ◌∷◌, ◌++◌, length, take, drop, map, replicate, All, IfOk, IfErr, is_err, IfSome, if◌then◌else◌};
+ghost use Rattle.xv_base.specs.Units.{units, size, max_size};
+ghost use Rattle.xv_frame.specs.Frame.{UnitFrame, message, spelled};
+ghost use Rattle.xv_wire.specs.Wire.{PutBytes};
+ghost use Rattle.xv_wire.specs.Told.{MayCall, CallMade};
+ghost use Rattle.xv_streams.specs.Streamed.{lane, fresh_lane, frame_room, OnlyLane, FramePut, IsLaneOf, MessageTaken, seen_lane, first_group, content_of_first};
+ghost use Rattle.xv_base.specs.Layout.{IsGood};
+ghost use Rattle.xv_frame.specs.Reading.{front_head};
+ghost use Rattle.xv_frame.specs.Faults.{read_head};
+ghost use Rattle.xv_frame.specs.declared.heads.Head.TheVariants as Head;
+
+use crate::lane::Lane;
+use std::alloc::Global;
+use std::marker::Model;
+use xv_base::{Failed, Layout, NoMemory, UnitHead};
+use xv_frame::{Head, encode_unit, read_head};
+use xv_wire::Wire;
+
+/// Some wires, each of which carries the messages of one stream.
+#[derive(Drop)]
+pub struct Streams<W: Wire> {
+    layout: Layout,
+    format: u8,
+    wires: Vec<W>,
+    lanes: Vec<Lane>,
+    /// The frame that is put.
+    frame: Vec<u8>,
+}
+
+impl<W: Wire> Model for Streams<W> {
+    ghost use Rattle.std.specs.Prelude.{◌≡◌, length};
+    ghost use Rattle.xv_base.specs.Layout.{IsGood};
+    ghost use Rattle.xv_streams.specs.Streamed.{Streamed, seen_lanes, AreLanesOf, frame_room};
+
+    ghost Value = { Streamed };
+
+    ghost view = { λ s. record { shape = s.layout; format = s.format; lanes = seen_lanes W.told W.faults s.layout s.wires.items s.lanes.items } };
+
+    ghost invariant = { λ s. AreLanesOf W.told s.layout s.format s.wires.items s.lanes.items × IsGood s.layout × (length s.frame.items ≡ frame_room s.layout s.format) };
+}
+
+impl<W: Wire> Streams<W> {
+    /// Streams over these wires, from 1 to 8, in which nothing is in transit, with frames of the format 1 or 2.
+    /// Errors: want of memory, with the wires as they were.
+    pub fn new(
+        alloc: Global,
+        wires: Vec<W>,
+        layout: Layout,
+        format: u8,
+    ) -> Result<Streams<W>, Vec<W>>
+        requires some { 1 ≤ length wires.items }
+        requires few { length wires.items ≤ 8 }
+        requires format { (1 ≤ format) × (format ≤ 2) }
+        requires none { All (λ w. (W.told w).transit ≡ []) wires.items }
+        ensures shape { IfOk result (λ streams. streams.shape ≡ layout) }
+        ensures format { IfOk result (λ streams. streams.format ≡ format) }
+        ensures empty { IfOk result (λ streams. streams.lanes ≡ map (λ w. fresh_lane (W.told w) (W.faults w)) wires.items) }
+        ensures back { IfErr result (λ back. back.items ≡ wires.items) }
+    {
+        let room = frame_room(&layout, format);
+        let Ok(lanes) = new_lanes(alloc, wires.len(), room) else {
+            return Err(wires);
+        };
+        let Ok(frame) = Vec::from_elem(alloc, 0, room) else {
+            return Err(wires);
+        };
+        Ok(Streams {
+            layout,
+            format,
+            wires,
+            lanes,
+            frame,
+        })
+    }
+
+    /// The format of the frames, 1 or 2.
+    pub fn format(&self) -> u8
+        ensures { result ≡ self.now.format }
+    {
+        self.format
+    }
+
+    /// How many groups of messages are on a stream.
+    pub fn waiting(&self, stream: u8) -> u32
+        requires { stream < length self.now.lanes }
+        ensures { result ≡ length (lane self.now stream).groups }
+    {
+        self.lanes[stream as usize].waiting()
+    }
+
+    /// Sends a message on a stream, where the frame fits the wire.
+    /// Errors: the wire failed, and the lists are unchanged.
+    pub fn send(&mut self, stream: u8, head: UnitHead, bytes: &[u8]) -> Result<(), Failed>
+        requires stream_in { stream < length self.old.lanes }
+        requires format { self.old.format ≡ 1 }
+        requires unit_in { head.unit.0 < units self.old.shape }
+        requires made { 1 ≤ head.version }
+        requires whole { length bytes.now ≡ size self.old.shape head.unit.0 }
+        requires room { MayCall (PutBytes (spelled (UnitFrame (message head bytes.now)))) (lane self.old stream).wire }
+        ensures others { OnlyLane stream self.old self.new }
+        ensures put { FramePut (UnitFrame (message head bytes.now)) (is_err result) (lane self.old stream) (lane self.new stream) }
+    {
+        let size = encode_unit(&self.layout, head, bytes, &mut self.frame);
+        let place = stream as usize;
+        put_frame(
+            &mut self.wires[place],
+            &mut self.lanes[place],
+            &self.frame[..size],
+        )
+    }
+
+    /// Takes the first message off a stream; its content then is in the first bytes of `into`, which has the greatest
+    /// size of a unit.
+    /// Errors: the wire failed; the lists are unchanged, and a later call goes on with the bytes gathered.
+    pub fn receive(&mut self, stream: u8, into: &mut [u8]) -> Result<Option<UnitHead>, Failed>
+        requires stream_in { stream < length self.old.lanes }
+        requires format { self.old.format ≡ 1 }
+        requires room { max_size self.old.shape ≤ length into.old }
+        ensures others { OnlyLane stream self.old self.new }
+        ensures taken { MessageTaken self.old.shape result (take (length (content_of_first (first_group (lane self.old stream).groups))) into.new) (lane self.old stream) (lane self.new stream) }
+    {
+        let place = stream as usize;
+        receive_message(
+            &mut self.wires[place],
+            &mut self.lanes[place],
+            &self.layout,
+            into,
+        )
+    }
+
+    /// The wires as they are.
+    pub fn into_wires(self) -> Vec<W>
+        ensures { map W.told result.items ≡ map (λ l. l.wire) self.lanes }
+    {
+        self.wires
+    }
+}
+
+/// Puts a frame, which then is on the way.
+fn put_frame<W: Wire>(wire: &mut W, lane: &mut Lane, frame: &[u8]) -> Result<(), Failed>
+    requires room { MayCall (PutBytes frame.now) (W.told wire.old) }
+    requires few { lane.old.waiting * 24 ≤ length lane.old.bytes + length (W.told wire.old).transit }
+    requires short { length lane.old.bytes < 2 ^ 32 }
+    ensures made { CallMade (PutBytes frame.now) (is_err result) (W.told wire.old) (W.told wire.new) (W.faults wire.old) (W.faults wire.new) }
+    ensures counted { lane.new ≡ record lane.old { waiting = if is_err result then lane.old.waiting else lane.old.waiting + 1 } }
+{
+    let fits = frame.len() <= wire.capacity() as usize;
+    prove!(fits);
+    match wire.put(frame) {
+        Ok(()) => {
+            lane.sent();
+            Ok(())
+        }
+        Err(_) => Err(Failed),
+    }
+}
+
+/// Takes the first message off a lane of unit frames.
+fn receive_message<W: Wire>(
+    wire: &mut W,
+    lane: &mut Lane,
+    layout: &Layout,
+    into: &mut [u8],
+) -> Result<Option<UnitHead>, Failed>
+    requires good { IsGood layout.now }
+    requires lane { IsLaneOf layout.now 1 (W.told wire.old) lane.old }
+    requires room { max_size layout.now ≤ length into.old }
+    ensures lane { IsLaneOf layout.now 1 (W.told wire.new) lane.new }
+    ensures taken { MessageTaken layout.now result (take (length (content_of_first (first_group (seen_lane layout.now (W.told wire.old) (W.faults wire.old) lane.old).groups))) into.new) (seen_lane layout.now (W.told wire.old) (W.faults wire.old) lane.old) (seen_lane layout.now (W.told wire.new) (W.faults wire.new) lane.new) }
+{
+    match lane.gather(wire, layout) {
+        Ok(true) => {
+            let head = read_unit(lane.bytes(), layout, into);
+            lane.taken_off();
+            Ok(Some(head))
+        }
+        Ok(false) => Ok(None),
+        Err(_) => Err(Failed),
+    }
+}
+
+/// Reads a unit frame, whose content goes to the first bytes of `into`.
+fn read_unit(frame: &[u8], layout: &Layout, into: &mut [u8]) -> UnitHead
+    requires long { 24 ≤ length frame.now }
+    requires room { length frame.now ≤ 24 + length into.old }
+    requires known { read_head layout.now (take 24 frame.now) ≡ Ok (Head.Unit (front_head frame.now)) }
+    ensures head { result ≡ front_head frame.now }
+    ensures content { take (length frame.now - 24) into.new ≡ drop 24 frame.now }
+{
+    let content = frame.len() - 24;
+    into[..content].copy_from_slice(&frame[24..]);
+    match read_head(&frame[..24], layout) {
+        Ok(Head::Unit(head)) => head,
+        Ok(Head::Ack(_)) => unreachable!(),
+        Err(_) => unreachable!(),
+    }
+}
+
+/// How many bytes the greatest frame of a format has.
+fn frame_room(layout: &Layout, format: u8) -> usize
+    ensures room { result ≡ frame_room layout.now format }
+    ensures good { IsGood layout.now }
+{
+    let size = layout.max_size() as usize;
+    if format == 1 {
+        24 + size
+    } else {
+        24 + 16 * (20 + size)
+    }
+}
+
+/// Lanes on which nothing is.
+fn new_lanes(alloc: Global, count: usize, room: usize) -> Result<Vec<Lane>, NoMemory>
+    ensures { IfOk result (λ lanes. lanes.items ≡ replicate count (record { bytes = []; room = room; waiting = 0 })) }
+{
+    let Ok(mut lanes) = Vec::with_capacity(alloc, count) else {
+        return Err(NoMemory);
+    };
+    while lanes.len() < count {
+        let Ok(lane) = Lane::new(alloc, room) else {
+            return Err(NoMemory);
+        };
+        let Ok(()) = lanes.push(lane) else {
+            return Err(NoMemory);
+        };
+    }
+    Ok(lanes)
+}

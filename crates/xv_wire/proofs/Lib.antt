@@ -1,0 +1,4 @@
+pub mod Passing
+pub mod Made
+pub mod Pushing
+pub mod Piping

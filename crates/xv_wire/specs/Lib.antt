@@ -1,0 +1,4 @@
+pub mod Wire
+pub mod Told
+pub mod Lengths
+pub mod Memory
