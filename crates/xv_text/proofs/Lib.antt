@@ -2,3 +2,4 @@ pub mod Cuts
 pub mod Prints
 pub mod Numbers
 pub mod HexFields
+pub mod Rows
