@@ -82,7 +82,7 @@ there_is : (byte : ℕ) (front back : List ℕ) → list_any (λ x. x == byte) (
 there_is byte [] back = or_left (byte == byte) _ (eq-eqb byte byte refl)
 there_is byte (b ∷ front) back = or_right (b == byte) _ (there_is byte front back)
 
-has_rest-front : (front back : List ℕ) → has_rest (front ++ 10 ∷ back) ≡ has_rest back
+pub has_rest-front : (front back : List ℕ) → has_rest (front ++ 10 ∷ back) ≡ has_rest back
 has_rest-front [] back = refl
 has_rest-front (b ∷ front) back =
     let there : list_any (λ x. x == 10) (b ∷ (front ++ 10 ∷ back)) ≡ true = or_right (b == 10) _ (there_is 10 front back) in
@@ -118,7 +118,7 @@ pub cut_shorter : (byte : ℕ) (text front back : List ℕ) → IsCut byte text 
 cut_shorter byte text front back cut = omega (arith, ap length cut.whole, length-append front (byte ∷ back))
 
 -- there is a field in every line
-length-before_first : (b : ℕ) (items : List (List ℕ)) → length (before_first b items) ≡ length items
+pub length-before_first : (b : ℕ) (items : List (List ℕ)) → length (before_first b items) ≡ length items
 length-before_first b [] = refl
 length-before_first b (item ∷ items) = refl
 

@@ -157,6 +157,9 @@ hex-all (b ∷ p) h =
     and_from (is_hex_digit (hex_digit (b / 16))) _ (hex_digit_passes (b / 16) (omega arith))
     (and_from (is_hex_digit (hex_digit (b % 16))) _ (hex_digit_passes (b % 16) (omega arith)) (hex-all p (λ i. h (suc i))))
 
+pub hex_digits : (p : List ℕ) → IsPattern p → list_all is_hex_digit (hex p) ≡ true
+hex_digits p h = hex-all p h.bytes_fit
+
 pub hex-is_hex : (p : List ℕ) → IsPattern p → is_hex (hex p) ≡ true
 hex-is_hex p h = hex_from (hex p) (record {
   digits = hex-all p h.bytes_fit;

@@ -3,3 +3,5 @@ pub mod Prints
 pub mod Numbers
 pub mod HexFields
 pub mod Rows
+pub mod Apart
+pub mod Spelled

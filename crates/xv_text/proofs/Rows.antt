@@ -22,19 +22,19 @@ pub record IsReadTo (kinds : List Kind) (args : List (List ℕ)) (i : ℕ) (row 
   pub few : length row.numbers ≤ i
 
 -- what a field without a fault is
-is_number_field : (f : List ℕ) → field_fault Number f ≡ None → is_number f ≡ true
+pub is_number_field : (f : List ℕ) → field_fault Number f ≡ None → is_number f ≡ true
 is_number_field f h = elim (cases_Bool (is_number f)) [
   | inl t ↦ t
   | inr e ↦ let bad : Some BadNumber ≡ None = rw e at h in absurd (cc)
 ]
 
-is_hex_field : (f : List ℕ) → field_fault Bytes f ≡ None → is_hex f ≡ true
+pub is_hex_field : (f : List ℕ) → field_fault Bytes f ≡ None → is_hex f ≡ true
 is_hex_field f h = elim (cases_Bool (is_hex f)) [
   | inl t ↦ t
   | inr e ↦ let bad : Some BadHex ≡ None = rw e at h in absurd (cc)
 ]
 
-not_empty : (bytes : List ℕ) → 1 ≤ length bytes → is_empty bytes ≡ false
+pub not_empty : (bytes : List ℕ) → 1 ≤ length bytes → is_empty bytes ≡ false
 not_empty [] h = absurd (omega arith)
 not_empty (b ∷ bytes) h = refl
 
@@ -92,7 +92,7 @@ next_fields args after field i e n =
     let first : take (i + 1) args ≡ take i args ++ field ∷ [] = ap (take (i + 1)) whole ∙ take_at (take i args ++ field ∷ []) after (i + 1) count in
     (first, whole ∙ ap (λ xs. xs ++ after) (sym first))
 
-none_of_both : (a b : Option LineWhy) → or_else a b ≡ None → (a ≡ None) × (b ≡ None)
+pub none_of_both : (a b : Option LineWhy) → or_else a b ≡ None → (a ≡ None) × (b ≡ None)
 none_of_both None b h = (refl, h)
 none_of_both (Some why) b h = absurd (cc)
 
@@ -189,7 +189,7 @@ row_read kinds args i row fault rest r none e done =
     let each : kinds_fault kinds args ≡ None = sym both ∙ sym r.first ∙ none in
     let counted : length args ≡ length kinds = omega (arith, ap length args_is, r.counted) in
     let row_is : values kinds args ≡ row =
-        sym (r.said none ∙ ap (λ ks. values ks (take i args)) kinds_is ∙ ap (values kinds) args_is) in
+    sym (r.said none ∙ ap (λ ks. values ks (take i args)) kinds_is ∙ ap (values kinds) args_is) in
     let P : Values → Type 0 = λ v. IsRow kinds v in
     subst P row_is (record { numbers_fit = numbers_fit kinds args each; pattern = pattern_there kinds args counted each })
 
