@@ -1,11 +1,8 @@
-// A guest's trace: the unit operations that it does, one after another.
-//
-// Contracts see a `Trace` as the list of its unit operations. The layer above may rely on its length: no trace
-// has more operations than a whole job may have.
+// A guest's operations: their text, and the unit operations that they are.
 #![tactic(auto)]
 
 mod op;
-mod trace;
+mod read;
 
 pub use op::{Op, Verb};
-pub use trace::is_load;
+pub use read::{read_op, verb_of};
