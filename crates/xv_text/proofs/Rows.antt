@@ -38,11 +38,11 @@ pub not_empty : (bytes : List ℕ) → 1 ≤ length bytes → is_empty bytes ≡
 not_empty [] h = absurd (omega arith)
 not_empty (b ∷ bytes) h = refl
 
-or_else_none : (a : Option LineWhy) → or_else a None ≡ a
+pub or_else_none : (a : Option LineWhy) → or_else a None ≡ a
 or_else_none None = refl
 or_else_none (Some why) = refl
 
-no_fault_if : (b : Bool) (why : LineWhy) → fault_if b why ≡ None → b ≡ false
+pub no_fault_if : (b : Bool) (why : LineWhy) → fault_if b why ≡ None → b ≡ false
 no_fault_if true why h = absurd (cc)
 no_fault_if false why h = refl
 

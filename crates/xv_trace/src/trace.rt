@@ -1,13 +1,14 @@
 //! The operations of one guest.
 
 ghost use Rattle.std.specs.Prelude.{◌≡◌, ◌+◌, ◌/◌, ◌%◌, ◌^◌, ◌<◌, ◌≤◌, [], ◌∷◌, ◌++◌, length, get_or, slice_index, OnOk, OnErr};
+ghost use Rattle.xv_base.specs.Units.{blocks, block_size, unit_of_block};
 ghost use Rattle.xv_trace.specs.Operations.{unit_operations, all_unit_operations, op_count, count_all, no_unit_op, part_of};
 ghost use Rattle.xv_trace.specs.OpText.{IsGoodOp, IsProgram};
 
 use crate::op::Op;
 use std::alloc::Global;
 use std::marker::Model;
-use xv_base::{Layout, NoMemory, Pattern, UnitId, UnitOp, layouts_keep_limits};
+use xv_base::{Layout, NoMemory, Pattern, UnitId, UnitOp, layouts_keep_limits, units_number_blocks};
 
 /// The operations of a guest on the units of a layout, one after another. It takes memory in proportion to its
 /// operations, however many blocks they write.
@@ -139,12 +140,7 @@ fn part(layout: &Layout, op: &Op, n: u32) -> UnitOp
             block,
             count: _,
             pat,
-        } => UnitOp {
-            unit: layout.unit_of_block(*disk, *block + n),
-            offset: 0,
-            len: layout.block_size(*disk),
-            write: Some(*pat),
-        },
+        } => block_write(layout, *disk, *block, n, *pat),
         Op::Fetch {
             disk,
             block,
@@ -156,6 +152,23 @@ fn part(layout: &Layout, op: &Op, n: u32) -> UnitOp
             len: *len,
             write: None,
         },
+    }
+}
+
+/// The write of the block number n from a block on.
+fn block_write(layout: &Layout, disk: u8, block: u32, n: u32, pattern: Pattern) -> UnitOp
+    requires disk_in { disk < length layout.now.disks }
+    requires block_in { block + n < blocks layout.now.disks disk }
+    ensures { result ≡ part_of (unit_of_block layout.now disk (block + n)) 0 (block_size layout.now.disks disk) (Some pattern) }
+{
+    units_number_blocks();
+    layouts_keep_limits();
+    let len = layout.block_size(disk);
+    UnitOp {
+        unit: layout.unit_of_block(disk, block + n),
+        offset: 0,
+        len,
+        write: Some(pattern),
     }
 }
 
