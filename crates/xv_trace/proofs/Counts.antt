@@ -59,18 +59,18 @@ block_write_at shape disk block (suc n) pat k h = elim (cases_lt k n) [
 take_next : (i : ℕ) (op : Op) (ops : List Op) → take (suc i + 1) (op ∷ ops) ≡ op ∷ take (i + 1) ops
 take_next i op ops = let e : suc i + 1 ≡ suc (i + 1) = omega arith in ap (λ n. take n (op ∷ ops)) e
 
-pub unit_operation_at : (shape : Shape) (ops : List Op) (i k : ℕ) → i < length ops → count_all (take i ops) ≤ k → k < count_all (take (i + 1) ops)
-    → get_or (all_unit_operations shape ops) k no_unit_op ≡ get_or (unit_operations shape (get_or ops i no_op)) (k - count_all (take i ops)) no_unit_op
-unit_operation_at shape [] i k h low high = absurd (omega arith)
-unit_operation_at shape (op ∷ ops) zero k h low high =
+pub unit_operation_at : (shape : Shape) (ops : List Op) (i k : ℕ) (d : Op) → i < length ops → count_all (take i ops) ≤ k → k < count_all (take (i + 1) ops)
+    → get_or (all_unit_operations shape ops) k no_unit_op ≡ get_or (unit_operations shape (get_or ops i d)) (k - count_all (take i ops)) no_unit_op
+unit_operation_at shape [] i k d h low high = absurd (omega arith)
+unit_operation_at shape (op ∷ ops) zero k d h low high =
     let one : count_all (op ∷ []) ≡ op_count op = count_all-one op in
     let in' : k < length (unit_operations shape op) = omega (arith, length-unit_operations shape op) in
     get_or_append_left (unit_operations shape op) (all_unit_operations shape ops) no_unit_op k in'
     ∙ ap (λ j. get_or (unit_operations shape op) j no_unit_op) (let none : k ≡ k - 0 = omega arith in none)
-unit_operation_at shape (op ∷ ops) (suc i) k h low high =
+unit_operation_at shape (op ∷ ops) (suc i) k d h low high =
     let first = count_all-cons op (take i ops) in
     let next = ap count_all (take_next i op ops) ∙ count_all-cons op (take (i + 1) ops) in
     let same : k - op_count op - count_all (take i ops) ≡ k - count_all (op ∷ take i ops) = omega (arith, first) in
     get_or-append_right (unit_operations shape op) (all_unit_operations shape ops) (op_count op) k no_unit_op (length-unit_operations shape op) (omega (arith, first))
-    ∙ unit_operation_at shape ops i (k - op_count op) (omega arith) (omega (arith, first)) (omega (arith, first, next))
-    ∙ ap (λ j. get_or (unit_operations shape (get_or ops i no_op)) j no_unit_op) same
+    ∙ unit_operation_at shape ops i (k - op_count op) d (omega arith) (omega (arith, first)) (omega (arith, first, next))
+    ∙ ap (λ j. get_or (unit_operations shape (get_or ops i d)) j no_unit_op) same
