@@ -1,3 +1,5 @@
 pub mod Counts
 pub mod Acts
 pub mod Keeps
+pub mod OpLines
+pub mod Texts

@@ -32,12 +32,12 @@ pub fn read_ops(
     ensures text { IfOk result (λ trace. lines.now ≡ ops_text trace.ops) }
     ensures fault { IfFault result (λ fault. text_fault layout.now room first_line lines.now ≡ Some fault) }
 {
-    let room = room.min(MOST_OPERATIONS);
+    let limit = room.min(MOST_OPERATIONS);
     let mut trace = Trace::new(alloc, *layout);
     let mut rest = lines;
     let mut number = first_line;
     while let Some((line, after)) = next_line(rest) {
-        let op = match read_line(layout, room - trace.unit_ops(), line) {
+        let op = match read_line(layout, limit - trace.unit_ops(), line) {
             Ok(op) => op,
             Err(why) => return Err(at_line(number, why)),
         };
