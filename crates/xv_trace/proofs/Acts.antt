@@ -66,6 +66,6 @@ pub record IsInBlock (shape : Shape) (disk block offset len : ℕ) : Type 0 wher
 pub fetch_acts : (shape : Shape) (disk block offset len : ℕ) → op_fault shape (Fetch disk block offset len) ≡ None → IsInBlock shape disk block offset len
 fetch_acts shape disk block offset len h =
     let tests =
-        none_of_five (nat_le (length shape.disks) disk) (nat_le (blocks shape.disks disk) block) (len == 0) (nat_lt 64 len) (nat_lt (block_size shape.disks disk) (offset + len))
-        (no_fault_if _ _ h) in
+    none_of_five (nat_le (length shape.disks) disk) (nat_le (blocks shape.disks disk) block) (len == 0) (nat_lt 64 len) (nat_lt (block_size shape.disks disk) (offset + len))
+    (no_fault_if _ _ h) in
     record { disk_in = leb-false _ _ tests.0; block_in = leb-false _ _ tests.1; some = some_of len tests.2; few = ltb-false _ _ tests.3; bytes_in = ltb-false _ _ tests.4 }

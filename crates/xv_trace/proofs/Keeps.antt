@@ -56,12 +56,13 @@ kept_push shape ops op firsts count k good room = record {
 pub falls_in : (p : Program) (firsts : List ℕ) (count k i : ℕ) → IsKept p firsts count → k < count_all p.ops → i < length firsts → get_or firsts i 0 ≤ k
     → (i + 1 < length firsts → k < get_or firsts (i + 1) 0) → (k < count_all (take (i + 1) p.ops)) × (count_all (take i p.ops) ≤ k)
 falls_in p firsts count k i kept h lt here next =
-    let at : get_or firsts i 0 ≡ count_all (take i p.ops) = kept.before i (omega (arith, kept.each)) in
-    (elim (cases_lt (i + 1) (length firsts)) [
-      | inl more ↦ omega (arith, next more, kept.before (i + 1) (omega (arith, kept.each)))
-      | inr last ↦ let all : take (i + 1) p.ops ≡ p.ops = take_all (i + 1) p.ops (omega (arith, kept.each)) in omega (arith, ap count_all all)
-    ],
-    omega (arith, at))
+    let at : get_or firsts i 0 ≡ count_all (take i p.ops) = kept.before i (omega (arith, kept.each)) in (
+      elim (cases_lt (i + 1) (length firsts)) [
+        | inl more ↦ omega (arith, next more, kept.before (i + 1) (omega (arith, kept.each)))
+        | inr last ↦ let all : take (i + 1) p.ops ≡ p.ops = take_all (i + 1) p.ops (omega (arith, kept.each)) in omega (arith, ap count_all all)
+      ],
+      omega (arith, at),
+    )
 
 -- the unit operation that is found
 same_default : {A : Type 0} (xs : List A) (i : ℕ) (d e : A) → i < length xs → get_or xs i d ≡ get_or xs i e

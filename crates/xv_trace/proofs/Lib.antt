@@ -3,3 +3,5 @@ pub mod Acts
 pub mod Keeps
 pub mod OpLines
 pub mod Texts
+pub mod Programs
+pub mod Units

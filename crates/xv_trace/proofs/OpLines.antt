@@ -18,6 +18,7 @@ use Rattle.xv_trace.specs.declared.op.Op.TheVariants.{Store, Load, Write, Fetch}
 use Rattle.xv_trace.specs.declared.op.Verb.{Verb}
 use Rattle.xv_trace.specs.declared.op.Verb.TheVariants.{Store as StoreVerb, Load as LoadVerb, Write as WriteVerb, Fetch as FetchVerb}
 use Rattle.xv_trace.specs.Operations.{op_fault, op_count}
+use Rattle.xv_trace.specs.Laws.{SaysOp, IsReadBack}
 use Rattle.xv_trace.specs.OpText.{is_word, verb_of, kinds_of, op_of, op_fields, verb_fault, verb_fault_or, op_line_fault, op_said, op_of_or_none, head, tail, CanBeSaid, IsGoodOp}
 
 -- the word of an operation
@@ -87,12 +88,6 @@ can_be_said WriteVerb row r = (r.numbers_fit 0, r.numbers_fit 1, r.numbers_fit 2
 can_be_said FetchVerb row r = (r.numbers_fit 0, r.numbers_fit 1, r.numbers_fit 2, r.numbers_fit 3)
 
 -- a line without a fault
-pub record SaysOp (shape : Shape) (room : ℕ) (fields : List (List ℕ)) (op : Op) : Type 0 where
-  pub said : op_said fields ≡ op ∷ []
-  pub spelled : fields ≡ op_fields op
-  pub good : IsGoodOp shape op
-  pub few : op_count op ≤ room
-
 verb_line : (shape : Shape) (room : ℕ) (verb : Verb) (word : List ℕ) (args : List (List ℕ)) → verb_of word ≡ Some verb → verb_fault shape room verb args ≡ None
     → SaysOp shape room (word ∷ args) (op_of verb (values (kinds_of verb) args))
 verb_line shape room verb word args e h =
@@ -219,3 +214,9 @@ pub op_fields_plain : (op : Op) → CanBeSaid op → IsPlainLine (op_fields op)
 op_fields_plain op h =
     let P : List (List ℕ) → Type 0 = λ fs. IsPlainLine fs in
     subst P (sym (fields_of_op op)) (omega arith, (word_plain (verb_of_op op), spelled_plain (kinds_of (verb_of_op op)) (op_row op) (row_fits op h)))
+
+pub read_back : (shape : Shape) (room : ℕ) (op : Op) → IsGoodOp shape op → op_count op ≤ room → IsReadBack shape room op
+read_back shape room op good few = record {
+  no_fault = op_line_fault-op_fields shape room op good few;
+  said = op_said-op_fields op good.can_be_said;
+}

@@ -13,7 +13,6 @@ use Rattle.xv_trace.specs.declared.op.Op.{Op}
 use Rattle.xv_trace.specs.Operations.{op_count, count_all}
 use Rattle.xv_trace.specs.OpText.{op_fields, op_line_fault, op_said, ops_said, ops_fault, ops_text, capped, text_fault, text_said, IsGoodOp}
 use Rattle.xv_trace.proofs.Counts.{count_all-one, count_all-push}
-use Rattle.xv_trace.proofs.OpLines.{SaysOp}
 
 -- a text is read up to its rest: its operations so far, and what is still to be found out
 pub record IsReadTo (shape : Shape) (room first : ℕ) (lines : List ℕ) (ops : List Op) (rest : List ℕ) : Type 0 where
@@ -36,7 +35,7 @@ ops_text-push ops op =
     ∙ ap (λ xs. ops_text ops ++ xs) (append-nil (line (op_fields op)))
 
 -- a line without a fault leaves the rest of the text to be read
-next_fault : (shape : Shape) (room n : ℕ) (l : List (List ℕ)) (ls : List (List (List ℕ))) (rest : Bool) (op : Op) → op_line_fault shape room l ≡ None → op_said l ≡ op ∷ []
+pub next_fault : (shape : Shape) (room n : ℕ) (l : List (List ℕ)) (ls : List (List (List ℕ))) (rest : Bool) (op : Op) → op_line_fault shape room l ≡ None → op_said l ≡ op ∷ []
     → ops_fault shape room n (l ∷ ls) rest ≡ ops_fault shape (room - op_count op) (n + 1) ls rest
 next_fault shape room n l ls rest op h said =
     ap (λ f. at_line_or n f (ops_fault shape (room - count_all (op_said l)) (n + 1) ls rest)) h

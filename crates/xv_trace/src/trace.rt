@@ -8,7 +8,9 @@ ghost use Rattle.xv_trace.specs.OpText.{IsGoodOp, IsProgram};
 use crate::op::Op;
 use std::alloc::Global;
 use std::marker::Model;
-use xv_base::{Layout, NoMemory, Pattern, UnitId, UnitOp, layouts_keep_limits, units_number_blocks};
+use xv_base::{
+    Layout, NoMemory, Pattern, UnitId, UnitOp, layouts_keep_limits, units_number_blocks,
+};
 
 /// The operations of a guest on the units of a layout, one after another. It takes memory in proportion to its
 /// operations, however many blocks they write.

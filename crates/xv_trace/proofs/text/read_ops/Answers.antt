@@ -18,7 +18,7 @@ loop-line-preserved c =
     let few : op_count op ≤ limit - count_all ops = omega (arith, c.in-Ok.ensures.room, left) in
     let pushed = c.in-Ok-push.ensures.ok in
     let read = read_next c.args.layout.now limit c.args.first_line c.args.lines.now ops rest c.in-Some.line.now c.in-Some.after.now op c.loop-line.invariant.read
-        c.in-Some.ensures.cut c.in-Some.ensures.first c.in-Some.ensures.rest no_fault c.in-Ok.ensures.said (spelled_by _ _ _ op no_fault c.in-Ok.ensures.said) few in
+    c.in-Some.ensures.cut c.in-Some.ensures.first c.in-Some.ensures.rest no_fault c.in-Ok.ensures.said (spelled_by _ _ _ op no_fault c.in-Ok.ensures.said) few in
     record {
       shape = ap (λ (p : Program). p.shape) pushed ∙ c.loop-line.invariant.shape;
       read = rw (ap (λ (p : Program). p.ops) pushed) read;
