@@ -19,9 +19,9 @@ lacks_everywhere byte (x ∷ xs) h =
 lacks_before : (byte : ℕ) (xs : List ℕ) (n : ℕ) → n ≤ length xs → ((k : ℕ) → 0 ≤ k → k < n → ¬ ((get_or xs k 0 == byte) ≡ true)) → Lacks byte (take n xs)
 lacks_before byte xs n fits h =
     lacks_everywhere byte (take n xs) (λ k lt.
-      let below : k < n = omega (arith, length-take-le n xs fits) in
-      let same : get_or (take n xs) k 0 ≡ get_or xs k 0 = get_or-take n xs k 0 below in
-      λ e. h k (omega arith) below (ap (λ x. x == byte) (sym same) ∙ e))
+    let below : k < n = omega (arith, length-take-le n xs fits) in
+    let same : get_or (take n xs) k 0 ≡ get_or xs k 0 = get_or-take n xs k 0 below in
+    λ e. h k (omega arith) below (ap (λ x. x == byte) (sym same) ∙ e))
 
 pub cut_at_place : (byte : ℕ) (text : List ℕ) (n : ℕ) → NoneBefore (Passes (is_byte byte) text) 0 (length text) n → Passes (is_byte byte) text n
     → IsCut byte text (take n text) (take (length text - (n + 1)) (drop (n + 1) text))

@@ -18,3 +18,6 @@ pub use print::{print_ops, push_op};
 pub use read::{read_op, verb_of};
 pub use text::read_ops;
 pub use trace::Trace;
+
+#[cfg(test)]
+mod tests;
