@@ -1,64 +1,40 @@
 -- A text is cut into lines, and a line into fields, at the first byte of a kind.
-use Rattle.std.proofs.Common.{◌≡◌, ◌==◌, ◌<◌, ◌≤◌, ℕ, zero, suc, ◌+◌, ◌-◌, Bool, true, false, not, List, [], ◌∷◌, ◌++◌, length, take, drop, Option, Some, None, position, refl, sym, ap, ◌∙◌, arith, nat_lt, if◌then◌else◌, add-one, inl, inr, rules, IfSome, IfNone, IsTrue}
+use Rattle.std.proofs.Common.{◌≡◌, ◌==◌, ◌<◌, ◌≤◌, ℕ, zero, suc, ◌+◌, ◌-◌, Bool, true, false, not, List, [], ◌∷◌, ◌++◌, length, take, drop, get_or, drop-cons, Option, Some, None, position, refl, sym, ap, ◌∙◌, arith, nat_lt, if◌then◌else◌, add-one, inl, inr, rules, IfSome, IfNone, IsTrue}
 use Rattle.std.specs.List.{list_any, position_or_len}
-use Rattle.std.proofs.lemmas.Bool.{cases_Bool, or_parts, or_from, or_left, or_right, eq-eqb, eqb-true, cases_lt, lt-ltb, le-ltb}
+use Rattle.std.proofs.lemmas.Bool.{cases_Bool, or_parts, or_from, or_left, false_from_ne_true, or_right, eq-eqb, eqb-true, cases_lt, lt-ltb, le-ltb}
 use Rattle.std.proofs.lemmas.Bool.Decides.{nat_tests}
-use Rattle.std.proofs.lemmas.List.{length-append}
+use Rattle.std.proofs.lemmas.List.{length-append, length-take-le, take-append-drop, get_or-take}
+use Rattle.memchr.specs.Find.{NoneBefore, Nowhere, Passes, is_byte}
 use Rattle.std.proofs.lemmas.Slice.{between_to_end}
 use Rattle.xv_text.specs.Lines.{before_first, whole_lines, has_rest, fields}
 use Rattle.xv_text.specs.Fields.{is_empty}
 use Rattle.xv_text.specs.Cuts.{Lacks, IsCut}
 
 -- the first place of a byte cuts there
-take_more_front : (n b : ℕ) (text : List ℕ) → take (1 + n) (b ∷ text) ≡ b ∷ take n text
-take_more_front n b text = let e : 1 + n ≡ suc n = omega arith in rw e refl
+lacks_everywhere : (byte : ℕ) (xs : List ℕ) → ((k : ℕ) → k < length xs → (get_or xs k 0 == byte) ≡ true → ⊥) → Lacks byte xs
+lacks_everywhere byte [] h = refl
+lacks_everywhere byte (x ∷ xs) h =
+    or_from (x == byte) (list_any (λ b. b == byte) xs) (false_from_ne_true _ (h 0 (omega arith))) (lacks_everywhere byte xs (λ k lt. h (suc k) (omega arith)))
 
-drop_more_front : (n b : ℕ) (text : List ℕ) → drop (1 + n + 1) (b ∷ text) ≡ drop (n + 1) text
-drop_more_front n b text = let e : 1 + n + 1 ≡ suc (n + 1) = omega arith in rw e refl
+lacks_before : (byte : ℕ) (xs : List ℕ) (n : ℕ) → n ≤ length xs → ((k : ℕ) → 0 ≤ k → k < n → ¬ ((get_or xs k 0 == byte) ≡ true)) → Lacks byte (take n xs)
+lacks_before byte xs n fits h =
+    lacks_everywhere byte (take n xs) (λ k lt.
+    let below : k < n = omega (arith, length-take-le n xs fits) in
+    let same : get_or (take n xs) k 0 ≡ get_or xs k 0 = get_or-take n xs k 0 below in
+    λ e. h k (omega arith) below (ap (λ x. x == byte) (sym same) ∙ e))
 
-one_more_front : (byte b : ℕ) (text front back : List ℕ) → (b == byte) ≡ false → IsCut byte text front back → IsCut byte (b ∷ text) (b ∷ front) back
-one_more_front byte b text front back other cut = record {
-  whole = ap (λ xs. b ∷ xs) cut.whole;
-  first = or_from (b == byte) (list_any (λ x. x == byte) front) other cut.first;
-}
+pub cut_at_place : (byte : ℕ) (text : List ℕ) (n : ℕ) → NoneBefore (Passes (is_byte byte) text) 0 (length text) n → Passes (is_byte byte) text n
+    → IsCut byte text (take n text) (take (length text - (n + 1)) (drop (n + 1) text))
+cut_at_place byte text n none here =
+    let there : n < length text = none.high in
+    rw (between_to_end text (n + 1) (length text) (omega arith))
+    (record {
+      whole = sym (take-append-drop n text) ∙ ap (λ xs. take n text ++ xs) (drop-cons text n 0 there ∙ ap (λ k. get_or text n 0 ∷ drop k text) (sym (add-one n)) ∙ ap (λ b. b ∷ drop (n + 1) text) (eqb-true _ _ here));
+      first = lacks_before byte text n (omega arith) none.before;
+    })
 
-not_here : (byte b : ℕ) (text : List ℕ) → (b == byte) ≡ false → position_or_len (λ x. x == byte) (b ∷ text) ≡ 1 + position_or_len (λ x. x == byte) text
-not_here byte b text other = rw other refl
-
-cut_here : (byte : ℕ) (text : List ℕ) → position_or_len (λ b. b == byte) text < length text
-    → IsCut byte text (take (position_or_len (λ b. b == byte) text) text) (drop (position_or_len (λ b. b == byte) text + 1) text)
-cut_here byte [] h = absurd (omega arith)
-cut_here byte (b ∷ text) h = elim (cases_Bool (b == byte)) [
-  | inl same ↦ rw same (record { whole = ap (λ x. x ∷ text) (eqb-true b byte same); first = refl })
-  | inr other ↦
-      let below : position_or_len (λ x. x == byte) text < length text = omega (arith, not_here byte b text other) in
-      rw (other, take_more_front, drop_more_front) (one_more_front byte b text _ _ other (cut_here byte text below))
-]
-
-cut_nowhere : (byte : ℕ) (text : List ℕ) → length text ≤ position_or_len (λ b. b == byte) text → Lacks byte text
-cut_nowhere byte [] h = refl
-cut_nowhere byte (b ∷ text) h = elim (cases_Bool (b == byte)) [
-  | inl same ↦ absurd (let none : position_or_len (λ x. x == byte) (b ∷ text) ≡ 0 = rw same refl in omega arith)
-  | inr other ↦ or_from (b == byte) (list_any (λ x. x == byte) text) other (cut_nowhere byte text (omega (arith, not_here byte b text other)))
-]
-
-cut_place : (byte : ℕ) (text : List ℕ) (n : ℕ) → Some n ≡ position (λ b. b == byte) text → IsCut byte text (take n text) (drop (n + 1) text)
-cut_place byte text n e = elim (cases_lt (position_or_len (λ b. b == byte) text) (length text)) [
-  | inl below ↦
-      let f : Some n ≡ Some (position_or_len (λ b. b == byte) text) = rw lt-ltb at e in
-      let same : n ≡ position_or_len (λ b. b == byte) text = cc in
-      rw same (cut_here byte text below)
-  | inr past ↦ let f : Some n ≡ None = rw le-ltb at e in absurd (cc)
-]
-
-pub cut_at_place : (byte : ℕ) (text : List ℕ) (n : ℕ) → Some n ≡ position (λ b. b == byte) text → IsCut byte text (take n text) (take (length text - (n + 1)) (drop (n + 1) text))
-cut_at_place byte text n e = rw (between_to_end text (n + 1) (length text) (omega arith)) (cut_place byte text n e)
-
-pub cut_at_none : (byte : ℕ) (text : List ℕ) → None ≡ position (λ b. b == byte) text → Lacks byte text
-cut_at_none byte text e = elim (cases_lt (position_or_len (λ b. b == byte) text) (length text)) [
-  | inl below ↦ let f : None ≡ Some (position_or_len (λ b. b == byte) text) = rw lt-ltb at e in absurd (cc)
-  | inr past ↦ cut_nowhere byte text past
-]
+pub cut_at_none : (byte : ℕ) (text : List ℕ) → Nowhere (Passes (is_byte byte) text) 0 (length text) → Lacks byte text
+cut_at_none byte text none = lacks_everywhere byte text (λ k lt. none k (omega arith) lt)
 
 -- the lines of a text, and whether bytes stand behind them, from its first line feed on
 whole_lines-front : (front back : List ℕ) → Lacks 10 front → whole_lines (front ++ 10 ∷ back) ≡ front ∷ whole_lines back
@@ -82,7 +58,7 @@ there_is : (byte : ℕ) (front back : List ℕ) → list_any (λ x. x == byte) (
 there_is byte [] back = or_left (byte == byte) _ (eq-eqb byte byte refl)
 there_is byte (b ∷ front) back = or_right (b == byte) _ (there_is byte front back)
 
-has_rest-front : (front back : List ℕ) → has_rest (front ++ 10 ∷ back) ≡ has_rest back
+pub has_rest-front : (front back : List ℕ) → has_rest (front ++ 10 ∷ back) ≡ has_rest back
 has_rest-front [] back = refl
 has_rest-front (b ∷ front) back =
     let there : list_any (λ x. x == 10) (b ∷ (front ++ 10 ∷ back)) ≡ true = or_right (b == 10) _ (there_is 10 front back) in
@@ -118,7 +94,7 @@ pub cut_shorter : (byte : ℕ) (text front back : List ℕ) → IsCut byte text 
 cut_shorter byte text front back cut = omega (arith, ap length cut.whole, length-append front (byte ∷ back))
 
 -- there is a field in every line
-length-before_first : (b : ℕ) (items : List (List ℕ)) → length (before_first b items) ≡ length items
+pub length-before_first : (b : ℕ) (items : List (List ℕ)) → length (before_first b items) ≡ length items
 length-before_first b [] = refl
 length-before_first b (item ∷ items) = refl
 

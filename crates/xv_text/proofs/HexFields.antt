@@ -7,6 +7,7 @@ use Rattle.std.proofs.lemmas.Bool.Decides.{nat_tests}
 use Rattle.std.proofs.lemmas.List.{take_more, take_more_set, length-append, length-take-le}
 use Rattle.xv_base.specs.Hex.{hex, hex_digit}
 use Rattle.xv_text.specs.Fields.{is_hex, is_hex_digit, hex_value, hex_bytes, IsPattern}
+use Rattle.xv_base.proofs.Hexes.{length-hex}
 use Rattle.xv_text.proofs.Numbers.{all_four, from_four, passes_at, all_more}
 
 -- what digits stand for
@@ -88,3 +89,81 @@ no_digit_tells b v e h = elim (chosen (is_hex_digit b) (hex_value b) 255 v e) [
   | inl t ↦ absurd (omega (arith, t.1, hex_value_small b t.0))
   | inr f ↦ f.0
 ]
+
+-- the bytes that digits stand for, and their digits
+length-hex_bytes : (field : List ℕ) → length field % 2 ≡ 0 → 2 * length (hex_bytes field) ≡ length field
+length-hex_bytes [] even = refl
+length-hex_bytes (a ∷ []) even = absurd (omega arith)
+length-hex_bytes (a ∷ b ∷ field) even = omega (arith, length-hex_bytes field (omega arith))
+
+two_pass : (a b : ℕ) (field : List ℕ) → list_all is_hex_digit (a ∷ b ∷ field) ≡ true → (is_hex_digit a ≡ true) × (is_hex_digit b ≡ true) × (list_all is_hex_digit field ≡ true)
+two_pass a b field h =
+    let p = and_parts (is_hex_digit a) (list_all is_hex_digit (b ∷ field)) h in
+    let q = and_parts (is_hex_digit b) (list_all is_hex_digit field) p.1 in
+    (p.0, q.0, q.1)
+
+hex_bytes-fit : (field : List ℕ) → list_all is_hex_digit field ≡ true → (i : ℕ) → get_or (hex_bytes field) i 0 < 256
+hex_bytes-fit [] h i = omega arith
+hex_bytes-fit (a ∷ []) h i = omega arith
+hex_bytes-fit (a ∷ b ∷ field) h zero =
+    let p = two_pass a b field h in
+    omega (arith, hex_value_small a p.0, hex_value_small b p.1)
+hex_bytes-fit (a ∷ b ∷ field) h (suc i) = hex_bytes-fit field (two_pass a b field h).2 i
+
+-- a field that says bytes is the digits of these bytes, which are a pattern
+hex-of_bytes : (field : List ℕ) → list_all is_hex_digit field ≡ true → length field % 2 ≡ 0 → field ≡ hex (hex_bytes field)
+hex-of_bytes [] h even = refl
+hex-of_bytes (a ∷ []) h even = absurd (omega arith)
+hex-of_bytes (a ∷ b ∷ field) h even =
+    let p = two_pass a b field h in
+    let v = 16 * hex_value a + hex_value b in
+    let up : v / 16 ≡ hex_value a = omega (arith, hex_value_small a p.0, hex_value_small b p.1) in
+    let down : v % 16 ≡ hex_value b = omega (arith, hex_value_small a p.0, hex_value_small b p.1) in
+    let high : a ≡ hex_digit (v / 16) = sym (ap hex_digit up ∙ hex_digit_of_value a p.0) in
+    let low : b ≡ hex_digit (v % 16) = sym (ap hex_digit down ∙ hex_digit_of_value b p.1) in
+    ap (λ x. x ∷ b ∷ field) high ∙ ap (λ x. hex_digit (v / 16) ∷ x ∷ field) low
+    ∙ ap (λ xs. hex_digit (v / 16) ∷ hex_digit (v % 16) ∷ xs) (hex-of_bytes field p.2 (omega arith))
+
+pub bytes_hex : (field : List ℕ) → is_hex field ≡ true → field ≡ hex (hex_bytes field)
+bytes_hex field h = let n = hex_parts field h in hex-of_bytes field n.digits n.even
+
+pub bytes_pattern : (field : List ℕ) → is_hex field ≡ true → IsPattern (hex_bytes field)
+bytes_pattern field h =
+    let n = hex_parts field h in
+    let long = length-hex_bytes field n.even in
+    record {
+      some = omega (arith, long, n.some);
+      few = omega (arith, long, n.few);
+      bytes_fit = hex_bytes-fit field n.digits;
+    }
+
+-- and the digits of a pattern are such a field, and say this pattern
+hex_bytes-of_hex : (p : List ℕ) → ((i : ℕ) → get_or p i 0 < 256) → hex_bytes (hex p) ≡ p
+hex_bytes-of_hex [] h = refl
+hex_bytes-of_hex (b ∷ p) h =
+    let small : b < 256 = h 0 in
+    let high = value_of_hex_digit (b / 16) (omega arith) in
+    let low = value_of_hex_digit (b % 16) (omega arith) in
+    let byte : 16 * hex_value (hex_digit (b / 16)) + hex_value (hex_digit (b % 16)) ≡ b = omega (arith, high, low) in
+    ap (λ x. x ∷ hex_bytes (hex p)) byte ∙ ap (λ xs. b ∷ xs) (hex_bytes-of_hex p (λ i. h (suc i)))
+
+pub hex_bytes-hex : (p : List ℕ) → IsPattern p → hex_bytes (hex p) ≡ p
+hex_bytes-hex p h = hex_bytes-of_hex p h.bytes_fit
+
+hex-all : (p : List ℕ) → ((i : ℕ) → get_or p i 0 < 256) → list_all is_hex_digit (hex p) ≡ true
+hex-all [] h = refl
+hex-all (b ∷ p) h =
+    let small : b < 256 = h 0 in
+    and_from (is_hex_digit (hex_digit (b / 16))) _ (hex_digit_passes (b / 16) (omega arith))
+    (and_from (is_hex_digit (hex_digit (b % 16))) _ (hex_digit_passes (b % 16) (omega arith)) (hex-all p (λ i. h (suc i))))
+
+pub hex_digits : (p : List ℕ) → IsPattern p → list_all is_hex_digit (hex p) ≡ true
+hex_digits p h = hex-all p h.bytes_fit
+
+pub hex-is_hex : (p : List ℕ) → IsPattern p → is_hex (hex p) ≡ true
+hex-is_hex p h = hex_from (hex p) (record {
+  digits = hex-all p h.bytes_fit;
+  even = omega (arith, length-hex p);
+  some = omega (arith, length-hex p, h.some);
+  few = omega (arith, length-hex p, h.few);
+})

@@ -69,13 +69,16 @@ first_zero : (n : ℕ) → n < 2 ^ 64 → get_or (decimal n) 0 0 ≡ 48 → leng
 first_zero zero h e = ap length (decimal_digit 0 (omega arith))
 first_zero (suc n) h e = absurd (omega (arith, first_decimal (suc n) (omega arith) h))
 
+pub decimal_digits : (n : ℕ) → n < 2 ^ 64 → list_all is_ascii_digit (decimal n) ≡ true
+decimal_digits n h = digits_decimal own n h
+
 pub number-decimal : (n : ℕ) → n < 2 ^ 32 → number (decimal n) ≡ n
 number-decimal n h = digits_value-decimal own n (omega arith)
 
 pub decimal_number : (n : ℕ) → n < 2 ^ 32 → is_number (decimal n) ≡ true
 decimal_number n h = number_from (decimal n) (record {
   some = decimal_nonempty n (omega arith);
-  digits = digits_decimal own n (omega arith);
+  digits = decimal_digits n (omega arith);
   first = first_zero n (omega arith);
   small = rw (number-decimal n h) h;
 })

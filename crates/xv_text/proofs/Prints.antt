@@ -14,7 +14,7 @@ pub spaced_more : (line word : List ℕ) (ns : List ℕ) (i : ℕ) → i < lengt
     → (line ++ 32 ∷ []) ++ decimal (get_or ns i 0) ≡ word ++ spaced (map decimal (take (i + 1) ns))
 spaced_more line word ns i h e =
     let more : map decimal (take (i + 1) ns) ≡ map decimal (take i ns) ++ decimal (get_or ns i 0) ∷ [] =
-        ap (map decimal) (take_more ns i 0 h) ∙ map-append decimal (take i ns) (get_or ns i 0 ∷ []) in
+    ap (map decimal) (take_more ns i 0 h) ∙ map-append decimal (take i ns) (get_or ns i 0 ∷ []) in
     let last : spaced (decimal (get_or ns i 0) ∷ []) ≡ 32 ∷ decimal (get_or ns i 0) = append-nil (32 ∷ decimal (get_or ns i 0)) in
     append_assoc line (32 ∷ []) (decimal (get_or ns i 0))
     ∙ ap (λ xs. xs ++ 32 ∷ decimal (get_or ns i 0)) e

@@ -1,5 +1,5 @@
 -- A text as lines, and a line as fields: taken apart, and put together.
-use Rattle.std.specs.Prelude.{ℕ, ◌==◌, Bool, true, false, List, [], ◌∷◌, ◌++◌, if◌then◌else◌}
+use Rattle.std.specs.Prelude.{ℕ, ◌==◌, Bool, true, false, List, [], ◌∷◌, ◌++◌, map, if◌then◌else◌}
 use Rattle.std.specs.List.{flat_map, list_any}
 
 -- a byte put before the first of these items, where there is one
@@ -21,6 +21,10 @@ has_rest (byte ∷ rest) = if list_any (λ b. b == 10) (byte ∷ rest) then has_
 abbrev pub fields : List ℕ → List (List ℕ)
 fields [] = [] ∷ []
 fields (byte ∷ rest) = if byte == 32 then [] ∷ fields rest else before_first byte (fields rest)
+
+-- the lines of a text, each as its fields
+abbrev pub lines_of : List ℕ → List (List (List ℕ))
+lines_of text = map fields (whole_lines text)
 
 -- a line of these fields, with its line feed; and a text of these lines
 abbrev pub line : List (List ℕ) → List ℕ

@@ -13,3 +13,6 @@ pub use fields::{Fields, first_field};
 pub use lines::next_line;
 pub use print::{push_line, push_line_with};
 pub use row::{Kind, Row, read_fields};
+
+#[cfg(test)]
+mod tests;

@@ -1,7 +1,7 @@
 //! The fields of a line, read by their kinds.
 
-ghost use Rattle.std.specs.Prelude.{◌≡◌, ◌<◌, ◌≤◌, length, IfOk, IfErr, IfNone, ◌++◌, ◌∷◌, []};
-ghost use Rattle.xv_text.specs.Fields.{values, number_at, fields_fault, field_fault};
+ghost use Rattle.std.specs.Prelude.{◌≡◌, ◌+◌, ◌<◌, ◌≤◌, length, IfOk, IfErr, IfSome, IfNone, ◌++◌, ◌∷◌, []};
+ghost use Rattle.xv_text.specs.Fields.{values, number_at, fields_fault, field_fault, or_else};
 ghost use Rattle.xv_text.specs.Row.{IsRow, with_last};
 
 use crate::digits::{number_of, pattern_of};
@@ -91,6 +91,7 @@ impl Row {
         requires { length self.old.numbers < 4 }
         ensures fault { result ≡ field_fault kind field.now }
         ensures added { IfNone result (self.new ≡ with_last kind field.now self.old) }
+        ensures kept { IfSome result (λ _. self.new ≡ self.old) }
     {
         match kind {
             Kind::Number => {
@@ -107,6 +108,19 @@ impl Row {
             }
         }
         None
+    }
+
+    /// Adds a field where none before it is at fault; the first fault so far.
+    fn add_after(&mut self, fault: Option<LineWhy>, kind: Kind, field: &[u8]) -> Option<LineWhy>
+        requires { length self.old.numbers < 4 }
+        ensures fault { result ≡ or_else fault (field_fault kind field.now) }
+        ensures added { IfNone result (self.new ≡ with_last kind field.now self.old) }
+        ensures few { length self.new.numbers ≤ length self.old.numbers + 1 }
+    {
+        match fault {
+            Some(why) => Some(why),
+            None => self.add(kind, field),
+        }
     }
 }
 
@@ -129,9 +143,7 @@ pub fn read_fields(kinds: &[Kind], args: &Fields) -> Result<Row, LineWhy>
         if field.is_empty() {
             return Err(LineWhy::BadWord);
         }
-        if fault.is_none() {
-            fault = row.add(*kind, field);
-        }
+        fault = row.add_after(fault, *kind, field);
         rest = after;
     }
     if !rest.is_done() {

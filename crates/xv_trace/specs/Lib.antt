@@ -1,2 +1,4 @@
 pub mod Operations
 pub mod OpText
+pub mod Kept
+pub mod Laws

@@ -1,9 +1,9 @@
 -- The operations of a guest, where each may act, and the unit operations that it is.
-use Rattle.std.specs.Prelude.{ℕ, zero, suc, ◌+◌, ◌*◌, ◌/◌, ◌%◌, ◌^◌, ◌==◌, ◌||◌, nat_lt, nat_le, Bool, List, [], ◌∷◌, ◌++◌, length, Option, Some, None, sum_by}
+use Rattle.std.specs.Prelude.{◌≡◌, ◌≤◌, ◌<◌, ℕ, zero, suc, ◌+◌, ◌*◌, ◌/◌, ◌%◌, ◌^◌, ◌==◌, ◌||◌, nat_lt, nat_le, Bool, true, false, List, [], ◌∷◌, ◌++◌, length, Option, Some, None, is_some, sum_by}
 use Rattle.std.specs.List.{flat_map}
 use Rattle.xv_base.specs.declared.text.LineWhy.{LineWhy}
 use Rattle.xv_base.specs.declared.text.LineWhy.TheVariants.{OutOfRange, CrossesPage}
-use Rattle.xv_base.specs.Units.{Shape, blocks, block_size, unit_of_block}
+use Rattle.xv_base.specs.Units.{Shape, units, size, is_page, blocks, block_size, unit_of_block}
 use Rattle.xv_text.specs.Fields.{or_else, fault_if}
 pub use Rattle.xv_base.specs.declared.pattern.UnitOp.{UnitOp}
 use Rattle.xv_trace.specs.declared.op.Op.{Op}
@@ -57,3 +57,15 @@ op_count (Fetch disk block offset len) = 1
 
 abbrev pub count_all : List Op → ℕ
 count_all ops = sum_by op_count ops
+
+-- what stands for a unit operation that is not there
+abbrev pub no_unit_op : UnitOp
+no_unit_op = part_of 0 0 0 None
+
+-- a unit operation that acts within one unit: a write of a block is of the whole block, and a read is of at most 64 bytes
+pub record IsWithinUnit (shape : Shape) (op : UnitOp) : Type 0 where
+  pub unit_is : op.unit.0 < units shape
+  pub some_bytes : 0 < op.len
+  pub in_unit : op.offset + op.len ≤ size shape op.unit.0
+  pub whole_block : is_some op.write ≡ true → is_page shape op.unit.0 ≡ false → (op.offset ≡ 0) × (op.len ≡ size shape op.unit.0)
+  pub short_read : is_some op.write ≡ false → op.len ≤ 64
