@@ -1,14 +1,13 @@
 -- What each event of the destination leaves, over the values that the code has.
-use Rattle.std.specs.Prelude.{◌≡◌, ◌≤◌, ◌<◌, ℕ, zero, suc, ◌+◌, ◌-◌, ◌^◌, ◌==◌, ◌&&◌, not, nat_lt, nat_le, Bool, true, false, List, [], ◌∷◌, ◌++◌, length, drop, remove, set, get_or, Option, None, if◌then◌else◌}
+use Rattle.std.specs.Prelude.{◌≡◌, ◌≤◌, ◌<◌, ℕ, zero, suc, ◌+◌, ◌^◌, ◌==◌, ◌&&◌, not, nat_lt, nat_le, Bool, true, false, List, [], ◌∷◌, ◌++◌, length, drop, remove, set, get_or, Option, None, if◌then◌else◌}
 use Rattle.std.proofs.Common.{refl, ap, sym, subst, ◌∙◌, arith, inl, inr}
 use Rattle.std.proofs.lemmas.Bool.{cases_eq, cases_lt, eq-eqb, ne_eqb, lt-ltb, le-ltb, lt-leb, le-leb, ltb-true}
 use Rattle.std.proofs.lemmas.List.{length-map}
 use Rattle.xv_model.specs.Guest.{Ended, wrote, writes}
-use Rattle.xv_model.specs.Report.{source_length}
 use Rattle.xv_model.specs.Invariant.{IsViewOf}
 use Rattle.xv_device.specs.Device.{write_count}
 use Rattle.xv_model.specs.Job.{Job, IsGoodJob, unit_count, units, size, is_page, disk_of, block_of}
-use Rattle.xv_model.specs.View.{View, UnitHead, number, member, no_disk, is_behind, is_running, is_live, is_stunned, is_empty, is_empty_set, first_next}
+use Rattle.xv_model.specs.View.{View, UnitHead, number, no_disk, is_behind, is_running, is_live, is_stunned, is_empty, is_empty_set, first_next}
 use Rattle.xv_model.specs.Wait.{Event, Why, wait, unless}
 use Rattle.xv_model.specs.Effect.{Turn, note}
 use Rattle.xv_model.specs.Step.{Entry}
@@ -17,37 +16,38 @@ use Rattle.xv_device.specs.Memory.{Device, after}
 use Rattle.xv_core.specs.Seen.{Seen, IsStep, view_of}
 use Rattle.xv_core.specs.State.{State, IsState, seen_of, heads, no_content}
 use Rattle.xv_core.specs.declared.message.Message.{Message}
-use Rattle.xv_core.proofs.Arrival.{now, pushed, went_on, acked, ack-keeps, ack-says, credited_one, credit-keeps, credit-says, switched_one, switch-keeps, switch-says, applied_one, apply-keeps, apply-says, next_message, next_place, NextFits, apply-fits, apply-waits, switch-waits}
+use Rattle.xv_core.proofs.Arrival.{now, pushed, went_on, ack-keeps, ack-says, credit-keeps, credit-says, switch-keeps, apply-keeps, apply-says, next_message, next_place, NextFits, apply-fits, apply-waits, switch-waits}
 use Rattle.xv_base.specs.declared.answer.Why.TheVariants.{NotNow, NothingThere}
 use Rattle.xv_base.specs.declared.event.Phase.TheVariants.{Switched}
 use Rattle.xv_base.specs.declared.event.Event.TheVariants.{Apply, Ack, Credit, Switch}
+use Rattle.xv_job.specs.Written.{job_of}
 
 -- the journal with one entry more
 pub entered : (s : State) (e : Event) (a b : ℕ) (t : Turn) (before later : List Entry) → before ≡ s.journal → t ≡ note a b → later ≡ before ++ record { event = e; turn = t } ∷ [] → later ≡ pushed s e a b
 entered s e a b t before later same answered more = more ∙ ap (λ (j : List Entry). j ++ record { event = e; turn = t } ∷ []) same ∙ ap (λ (x : Turn). s.journal ++ record { event = e; turn = x } ∷ []) answered
 
 -- what is required of what contracts see, said of the state
-pub goes_on : (s : State) (m : Seen) (e : Event) → seen_of s ≡ m → wait m.job (view_of m) e false ≡ None → wait s.job (now s) e false ≡ None
-goes_on s m e seen goes = subst (λ (x : Seen). wait x.job (view_of x) e false ≡ None) (sym seen) goes
+pub goes_on : (s : State) (m : Seen) (e : Event) → seen_of s ≡ m → wait (job_of m.job) (view_of m) e false ≡ None → wait (job_of s.job) (now s) e false ≡ None
+goes_on s m e seen goes = subst (λ (x : Seen). wait (job_of x.job) (view_of x) e false ≡ None) (sym seen) goes
 
 -- the answer, said of what contracts see
 answered_to : (s t : State) (m : Seen) (e : Event) (a b : ℕ) (answer : Turn) → seen_of s ≡ m → answer ≡ note a b → IsStep (seen_of s) e (note a b) (seen_of t) → IsStep m e answer (seen_of t)
 answered_to s t m e a b answer seen is step = subst (λ (x : Seen). IsStep x e answer (seen_of t)) seen (subst (λ (x : Turn). IsStep (seen_of s) e x (seen_of t)) (sym is) step)
 
 module _ (s : State) (i : IsState s) where
-  pub ack-kept : (journal : List Entry) (acks : List ℕ) → wait s.job (now s) Ack false ≡ None → journal ≡ pushed s Ack s.freed 0 → acks ≡ s.acks ++ s.freed ∷ [] →
+  pub ack-kept : (journal : List Entry) (acks : List ℕ) → wait (job_of s.job) (now s) Ack false ≡ None → journal ≡ pushed s Ack s.freed 0 → acks ≡ s.acks ++ s.freed ∷ [] →
       IsState (record s { journal = journal; acks = acks; freed = 0 })
   ack-kept journal acks goes p q = rw (p, q) (ack-keeps s i goes)
 
-  pub credit-kept : (journal : List Entry) (acks : List ℕ) (count : ℕ) → wait s.job (now s) Credit false ≡ None → count ≡ number s.acks 0 → journal ≡ pushed s Credit (number s.acks 0) 0 → acks ≡ drop 1 s.acks →
+  pub credit-kept : (journal : List Entry) (acks : List ℕ) (count : ℕ) → wait (job_of s.job) (now s) Credit false ≡ None → count ≡ number s.acks 0 → journal ≡ pushed s Credit (number s.acks 0) 0 → acks ≡ drop 1 s.acks →
       IsState (record s { journal = journal; acks = acks; credit = s.credit + count })
   credit-kept journal acks count goes n p q = rw (p, q, n) (credit-keeps s i goes)
 
-  pub switch-kept : (journal : List Entry) (dest : Device) → wait s.job (now s) Switch false ≡ None → journal ≡ pushed s Switch 0 0 → dest ≡ after FlushAll false s.dest →
+  pub switch-kept : (journal : List Entry) (dest : Device) → wait (job_of s.job) (now s) Switch false ≡ None → journal ≡ pushed s Switch 0 0 → dest ≡ after FlushAll false s.dest →
       IsState (record s { journal = journal; dest = dest; phase = Switched })
   switch-kept journal dest goes p q = rw (p, q) (switch-keeps s i goes)
 
-  pub apply-kept : (journal : List Entry) (dest : Device) (held : List Message) (applied : List ℕ) → wait s.job (now s) Apply false ≡ None → length s.dest.writes ≡ unit_count s.job →
+  pub apply-kept : (journal : List Entry) (dest : Device) (held : List Message) (applied : List ℕ) → wait (job_of s.job) (now s) Apply false ≡ None → length s.dest.writes ≡ unit_count (job_of s.job) →
       journal ≡ pushed s Apply (next_message s).head.unit.0 (next_message s).head.version → dest ≡ after (WriteUnit (next_message s).head.unit.0 (next_message s).content) false s.dest →
       held ≡ remove s.held (next_place s) → applied ≡ set s.applied (next_message s).head.unit.0 (next_message s).head.version →
       IsState (record s { journal = journal; dest = dest; held = held; applied = applied; freed = s.freed + 1 })
@@ -58,21 +58,21 @@ module _ (s : State) (i : IsState s) where
       (subst (λ (x : List ℕ). IsState (record s { journal = pushed s Apply (next_message s).head.unit.0 (next_message s).head.version; dest = after (WriteUnit (next_message s).head.unit.0 (next_message s).content) false s.dest; held = remove s.held (next_place s); applied = x; freed = s.freed + 1 })) (sym t)
       (apply-keeps s i goes long))))
 
-  pub ack-told : (m : Seen) (t : Turn) (journal : List Entry) → seen_of s ≡ m → wait s.job (now s) Ack false ≡ None → t ≡ note s.freed 0 → journal ≡ pushed s Ack s.freed 0 →
+  pub ack-told : (m : Seen) (t : Turn) (journal : List Entry) → seen_of s ≡ m → wait (job_of s.job) (now s) Ack false ≡ None → t ≡ note s.freed 0 → journal ≡ pushed s Ack s.freed 0 →
       IsStep m Ack t (record (seen_of s) { journal = journal })
-  ack-told m t journal seen goes is p = answered_to s (record s { journal = journal }) m Ack s.freed 0 t seen is (went_on s (record s { journal = journal }) Ack s.freed 0 goes (ack-says s i) refl p)
+  ack-told m t journal seen goes is p = answered_to s (record s { journal = journal }) m Ack s.freed 0 t seen is (went_on s (record s { journal = journal }) Ack s.freed 0 goes (ack-says s i) refl p refl refl)
 
-  pub credit-told : (m : Seen) (t : Turn) (journal : List Entry) → seen_of s ≡ m → wait s.job (now s) Credit false ≡ None → t ≡ note (number s.acks 0) 0 → journal ≡ pushed s Credit (number s.acks 0) 0 →
+  pub credit-told : (m : Seen) (t : Turn) (journal : List Entry) → seen_of s ≡ m → wait (job_of s.job) (now s) Credit false ≡ None → t ≡ note (number s.acks 0) 0 → journal ≡ pushed s Credit (number s.acks 0) 0 →
       IsStep m Credit t (record (seen_of s) { journal = journal })
-  credit-told m t journal seen goes is p = answered_to s (record s { journal = journal }) m Credit (number s.acks 0) 0 t seen is (went_on s (record s { journal = journal }) Credit (number s.acks 0) 0 goes (credit-says s i) refl p)
+  credit-told m t journal seen goes is p = answered_to s (record s { journal = journal }) m Credit (number s.acks 0) 0 t seen is (went_on s (record s { journal = journal }) Credit (number s.acks 0) 0 goes (credit-says s i) refl p refl refl)
 
-  pub switch-told : (m : Seen) (t : Turn) (journal : List Entry) (dest : Device) → seen_of s ≡ m → wait s.job (now s) Switch false ≡ None → t ≡ note 0 0 → journal ≡ pushed s Switch 0 0 →
+  pub switch-told : (m : Seen) (t : Turn) (journal : List Entry) (dest : Device) → seen_of s ≡ m → wait (job_of s.job) (now s) Switch false ≡ None → t ≡ note 0 0 → journal ≡ pushed s Switch 0 0 →
       IsStep m Switch t (record (seen_of s) { journal = journal; dest = dest })
-  switch-told m t journal dest seen goes is p = answered_to s (record s { journal = journal; dest = dest }) m Switch 0 0 t seen is (went_on s (record s { journal = journal; dest = dest }) Switch 0 0 goes refl refl p)
+  switch-told m t journal dest seen goes is p = answered_to s (record s { journal = journal; dest = dest }) m Switch 0 0 t seen is (went_on s (record s { journal = journal; dest = dest }) Switch 0 0 goes refl refl p refl refl)
 
-  pub apply-told : (m : Seen) (t : Turn) (journal : List Entry) (dest : Device) → seen_of s ≡ m → wait s.job (now s) Apply false ≡ None → t ≡ note (next_message s).head.unit.0 (next_message s).head.version →
+  pub apply-told : (m : Seen) (t : Turn) (journal : List Entry) (dest : Device) → seen_of s ≡ m → wait (job_of s.job) (now s) Apply false ≡ None → t ≡ note (next_message s).head.unit.0 (next_message s).head.version →
       journal ≡ pushed s Apply (next_message s).head.unit.0 (next_message s).head.version → IsStep m Apply t (record (seen_of s) { journal = journal; dest = dest })
-  apply-told m t journal dest seen goes is p = answered_to s (record s { journal = journal; dest = dest }) m Apply (next_message s).head.unit.0 (next_message s).head.version t seen is (went_on s (record s { journal = journal; dest = dest }) Apply (next_message s).head.unit.0 (next_message s).head.version goes (apply-says s i) refl p)
+  apply-told m t journal dest seen goes is p = answered_to s (record s { journal = journal; dest = dest }) m Apply (next_message s).head.unit.0 (next_message s).head.version t seen is (went_on s (record s { journal = journal; dest = dest }) Apply (next_message s).head.unit.0 (next_message s).head.version goes (apply-says s i) refl p refl refl)
 
 -- the message that was taken is the next one
 same_at : {X : Type 0} (xs : List X) (i : ℕ) (d e : X) → i < length xs → get_or xs i d ≡ get_or xs i e
@@ -113,12 +113,12 @@ issued-few job v unit good format inv lt = by (is_page job.shape unit) (is_behin
         omega arith
     by false false e f = let none = inv.unsent.none unit (rw (lt-ltb unit (units job.shape) lt, e, f) refl) in omega arith
 
-few-writes : (s : State) → IsState s → (unit : ℕ) → unit < unit_count s.job → write_count s.dest.writes unit < 2 ^ 63
+few-writes : (s : State) → IsState s → (unit : ℕ) → unit < unit_count (job_of s.job) → write_count s.dest.writes unit < 2 ^ 63
 few-writes s i unit lt =
     let made = i.dest_made unit lt in
-    let issued = issued-few s.job (now s) unit i.good i.built.format.0 i.view lt in
+    let issued = issued-few (job_of s.job) (now s) unit i.good i.built.format i.view lt in
     let applied = i.view.versions.in_order unit in
-    let later = writes-le s.job (now s).history unit (length (now s).history) in
+    let later = writes-le (job_of s.job) (now s).history unit (length (now s).history) in
     let room = i.history_room in
     let same : length s.history ≡ length (now s).history = ap (λ (v : View). length v.history) i.shows in
     let few = i.good.operations in
@@ -139,7 +139,7 @@ may-next s i fits = record {
   within = fits.within;
 }
 
-pub may_write : (s : State) (m : Message) → IsState s → wait s.job (now s) Apply false ≡ None → m ≡ next_message s → MayWrite s m
+pub may_write : (s : State) (m : Message) → IsState s → wait (job_of s.job) (now s) Apply false ≡ None → m ≡ next_message s → MayWrite s m
 may_write s m i goes is = subst (MayWrite s) (sym is) (may-next s i (apply-fits s i goes))
 
 -- what applying and switching wait for, said of what contracts see
@@ -157,11 +157,11 @@ not_lt a b le = elim (cases_eq a b) [
   | inr ne ↦ ap not (lt-ltb a b (omega (arith, ne))) ∙ sym (ne_eqb a b ne)
 ]
 
-pub apply-wait : (s : State) (m : Seen) (n : ℕ) → IsState s → seen_of s ≡ m → n ≡ length s.held → wait m.job (view_of m) Apply false ≡ unless (not (is_live s.phase)) NotNow (unless (next_place s == n) NothingThere None)
+pub apply-wait : (s : State) (m : Seen) (n : ℕ) → IsState s → seen_of s ≡ m → n ≡ length s.held → wait (job_of m.job) (view_of m) Apply false ≡ unless (not (is_live s.phase)) NotNow (unless (next_place s == n) NothingThere None)
 apply-wait s m n i seen len =
     let long = length-map s.held (λ (x : Message). x.head) in
     let le : next_place s ≤ length s.held = let r = first_next-le s.applied (heads s.held) in omega arith in
-    subst (λ (x : Seen). wait x.job (view_of x) Apply false ≡ unless (not (is_live s.phase)) NotNow (unless (next_place s == n) NothingThere None)) seen
+    subst (λ (x : Seen). wait (job_of x.job) (view_of x) Apply false ≡ unless (not (is_live s.phase)) NotNow (unless (next_place s == n) NothingThere None)) seen
     (apply-waits s i ∙ ap (λ (b : Bool). unless (not (is_live s.phase)) NotNow (unless b NothingThere None)) (not_lt (next_place s) (length s.held) le ∙ ap (λ (k : ℕ). next_place s == k) (sym len)))
 
 not_le : (a b : ℕ) → not (nat_le a b) ≡ nat_lt b a
@@ -180,9 +180,9 @@ in_turn true false c = refl
 in_turn false b c = refl
 
 pub switch-wait : (s : State) (m : Seen) (n : ℕ) → IsState s → seen_of s ≡ m → n ≡ length s.outbox →
-    wait m.job (view_of m) Switch false ≡ unless (not (is_stunned s.phase)) NotNow (unless (not (is_empty_set (view_of m).to_send)) NotNow (unless (not (n == 0)) NotNow (unless (nat_lt s.credit s.job.config.credit) NotNow None)))
+    wait (job_of m.job) (view_of m) Switch false ≡ unless (not (is_stunned s.phase)) NotNow (unless (not (is_empty_set (view_of m).to_send)) NotNow (unless (not (n == 0)) NotNow (unless (nat_lt s.credit s.job.config.credit) NotNow None)))
 switch-wait s m n i seen len =
-    subst (λ (x : Seen). wait x.job (view_of x) Switch false ≡ unless (not (is_stunned s.phase)) NotNow (unless (not (is_empty_set (view_of x).to_send)) NotNow (unless (not (n == 0)) NotNow (unless (nat_lt s.credit s.job.config.credit) NotNow None)))) seen
+    subst (λ (x : Seen). wait (job_of x.job) (view_of x) Switch false ≡ unless (not (is_stunned s.phase)) NotNow (unless (not (is_empty_set (view_of x).to_send)) NotNow (unless (not (n == 0)) NotNow (unless (nat_lt s.credit s.job.config.credit) NotNow None)))) seen
     (switch-waits s i
     ∙ ap (λ (w : Option Why). unless (not (is_stunned s.phase)) NotNow w) (in_turn (is_empty_set (now s).to_send) (is_empty s.outbox) (nat_le s.job.config.credit s.credit))
     ∙ ap (λ (b : Bool). unless (not (is_stunned s.phase)) NotNow (unless (not (is_empty_set (now s).to_send)) NotNow (unless (not b) NotNow (unless (not (nat_le s.job.config.credit s.credit)) NotNow None)))) (none_there s.outbox n len)

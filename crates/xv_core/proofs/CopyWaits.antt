@@ -1,46 +1,44 @@
 -- What the events of the copy wait for, told of the fields.
-use Rattle.std.specs.Prelude.{◌≡◌, ◌≤◌, ◌<◌, ℕ, zero, suc, ◌-◌, nat_eq, nat_lt, nat_le, ◌&&◌, ◌||◌, not, Bool, true, false, List, [], ◌∷◌, length, map, Option, None}
+use Rattle.std.specs.Prelude.{◌≡◌, ◌≤◌, ◌<◌, ℕ, zero, suc, ◌-◌, nat_eq, ◌==◌, nat_lt, nat_le, ◌||◌, not, Bool, true, false, length, map, Option, None}
 use Rattle.std.proofs.Common.{arith, refl, ap, sym, subst, ◌∙◌}
 use Rattle.std.proofs.lemmas.Bool.{lt-ltb, le-ltb, leb-true, leb-false}
 use Rattle.std.proofs.lemmas.List.{length-map}
-use Rattle.xv_base.specs.declared.unit.DiskShape.{DiskShape}
 use Rattle.xv_model.specs.Job.{blocks}
-use Rattle.xv_model.specs.View.{View, Disk, is_running, is_copied, all_copied, all_copied_by}
+use Rattle.xv_model.specs.View.{View, Disk, is_running, is_copied, is_empty, all_copied, all_copied_by}
 use Rattle.xv_model.specs.Wait.{Why, wait, unless, is_full}
 use Rattle.xv_model.specs.Step.{run}
+use Rattle.xv_job.specs.Written.{job_of}
+use Rattle.xv_core.specs.Copies.{DiskState, shown_disk}
 use Rattle.xv_core.specs.Seen.{Seen, view_of}
-use Rattle.xv_core.specs.State.{State, IsState, seen_of, heads}
+use Rattle.xv_core.specs.State.{State, IsState, copy, seen_of, heads}
 use Rattle.xv_core.specs.declared.message.Message.{Message}
-use Rattle.xv_core.proofs.Copying.{lies, disk-with}
+use Rattle.xv_core.proofs.Shown.{disk-is}
+use Rattle.xv_core.proofs.Copying.{lies}
 use Rattle.xv_base.specs.declared.event.Event.TheVariants.{Begin, Read, Advance}
 use Rattle.xv_base.specs.declared.answer.Why.TheVariants.{NotNow, Throttled}
 
--- whether the disk is behind the copy
-and-on : (b : Bool) → (b && true) ≡ b
-and-on true = refl
-and-on false = refl
-
-one-copied : (shapes : List DiskShape) (d : Disk) → length shapes ≡ 1 → all_copied_by (map (λ s. s.blocks) shapes) (d ∷ []) ≡ is_copied (blocks shapes 0) d
-one-copied [] d one = absurd (omega arith)
-one-copied (s ∷ []) d one = and-on (is_copied s.blocks d)
-one-copied (s ∷ t ∷ shapes) d one = absurd (omega arith)
-
-copied-is : (s : State) → IsState s → all_copied s.job (run s.job s.journal) ≡ (nat_eq s.cursor (blocks s.job.shape.disks 0) && nat_eq s.region 0)
-copied-is s is =
-    ap (all_copied s.job) (sym is.shows)
-    ∙ one-copied s.job.shape.disks (disk-with s.cursor s.region (length s.blocks)) is.built.one_disk
-
-pub copied-test : (s : State) (old : Seen) (n : ℕ) → IsState s → seen_of s ≡ old → n ≡ blocks s.job.shape.disks 0 → (nat_eq s.cursor n && nat_eq s.region 0) ≡ all_copied old.job (view_of old)
-copied-test s old n is same count =
-    ap (λ k. nat_eq s.cursor k && nat_eq s.region 0) count ∙ sym (copied-is s is) ∙ ap (λ (m : Seen). all_copied m.job (view_of m)) same
+-- whether every disk is behind the copy
+pub copied-test : (s : State) (old : Seen) → IsState s → seen_of s ≡ old → all_copied_by (map (λ d. d.blocks) s.job.shape.disks) (map shown_disk s.disks) ≡ all_copied (job_of old.job) (view_of old)
+copied-test s old is same =
+    ap (all_copied (job_of s.job)) is.shows ∙ ap (λ (m : Seen). all_copied (job_of m.job) (view_of m)) same
 
 -- whether the outbox is full
-pub full-test : (s : State) (old : Seen) (n limit : ℕ) → IsState s → seen_of s ≡ old → n ≡ length s.outbox → limit ≡ s.job.config.outbox → nat_le limit n ≡ is_full old.job (view_of old)
+pub full-test : (s : State) (old : Seen) (n limit : ℕ) → IsState s → seen_of s ≡ old → n ≡ length s.outbox → limit ≡ s.job.config.outbox → nat_le limit n ≡ is_full (job_of old.job) (view_of old)
 full-test s old n limit is same count is_limit =
     ap (λ k. nat_le k n) is_limit ∙ ap (λ k. nat_le s.job.config.outbox k) (count ∙ sym (length-map s.outbox (λ (m : Message). m.head)))
-    ∙ ap (λ (v : View). is_full s.job v) is.shows ∙ ap (λ (m : Seen). is_full m.job (view_of m)) same
+    ∙ ap (λ (v : View). is_full (job_of s.job) v) is.shows ∙ ap (λ (m : Seen). is_full (job_of m.job) (view_of m)) same
 
--- the waits
+-- the waits, over a disk as the view has it
+abbrev begin-by : Bool → ℕ → Disk → Option Why
+begin-by running blocks k = unless (not running) NotNow (unless (is_copied blocks k || not (k.region == 0) || not (is_empty k.queue)) NotNow None)
+
+abbrev read-by : Bool → Disk → Option Why
+read-by running k = unless (not running) NotNow (unless (nat_le k.region k.got) NotNow None)
+
+abbrev advance-by : Bool → ℕ → Disk → Option Why
+advance-by running room k = unless (not running) NotNow (unless ((k.region == 0) || nat_lt k.got k.region) NotNow (unless (nat_lt room k.region) Throttled None))
+
+-- and as they are tested
 abbrev begin-tests : Bool → Bool → Bool → Option Why
 begin-tests running copied begun = unless (not running) NotNow (unless copied NotNow (unless begun NotNow None))
 
@@ -49,22 +47,25 @@ two-in-one true b = refl
 two-in-one false true = refl
 two-in-one false false = refl
 
-begin-waits : (s : State) → IsState s → wait s.job (run s.job s.journal) (Begin 0) false ≡ begin-tests (is_running s.phase) (all_copied s.job (run s.job s.journal)) (not (nat_eq s.region 0))
-begin-waits s is =
-    let copied = copied-is s is in
-    subst (λ v. wait s.job v (Begin 0) false ≡ begin-tests (is_running s.phase) (all_copied s.job (run s.job s.journal)) (not (nat_eq s.region 0))) is.shows
-    (ap (unless (not (is_running s.phase)) NotNow) (two-in-one (nat_eq s.cursor (blocks s.job.shape.disks 0) && nat_eq s.region 0) (not (nat_eq s.region 0)))
-    ∙ ap (λ b. begin-tests (is_running s.phase) b (not (nat_eq s.region 0))) (sym copied))
+begin-waits : (s : State) (d : ℕ) → IsState s → wait (job_of s.job) (run (job_of s.job) s.journal) (Begin d) false ≡ begin-tests (is_running s.phase) (is_copied (blocks s.job.shape.disks d) (shown_disk (copy s d))) (not (nat_eq (copy s d).region 0))
+begin-waits s d is =
+    subst (λ v. wait (job_of s.job) v (Begin d) false ≡ begin-tests (is_running s.phase) (is_copied (blocks s.job.shape.disks d) (shown_disk (copy s d))) (not (nat_eq (copy s d).region 0))) is.shows
+    (ap (begin-by (is_running s.phase) (blocks s.job.shape.disks d)) (disk-is s d)
+    ∙ ap (unless (not (is_running s.phase)) NotNow) (two-in-one (is_copied (blocks s.job.shape.disks d) (shown_disk (copy s d))) (not (nat_eq (copy s d).region 0))))
 
-pub begin-wait : (s : State) (old : Seen) → IsState s → seen_of s ≡ old → wait old.job (view_of old) (Begin 0) false ≡ begin-tests (is_running s.phase) (all_copied old.job (view_of old)) (not (nat_eq s.region 0))
-begin-wait s old is same =
-    subst (λ (m : Seen). wait m.job (view_of m) (Begin 0) false ≡ begin-tests (is_running s.phase) (all_copied m.job (view_of m)) (not (nat_eq s.region 0))) same (begin-waits s is)
+pub begin-wait : (s : State) (old : Seen) (d : ℕ) (k : DiskState) (n : ℕ) → IsState s → seen_of s ≡ old → k ≡ copy s d → n ≡ blocks s.job.shape.disks d →
+    wait (job_of old.job) (view_of old) (Begin d) false ≡ begin-tests (is_running s.phase) (is_copied n (shown_disk k)) (not (nat_eq k.region 0))
+begin-wait s old d k n is same at count =
+    subst (λ (m : Seen). wait (job_of m.job) (view_of m) (Begin d) false ≡ begin-tests (is_running s.phase) (is_copied n (shown_disk k)) (not (nat_eq k.region 0))) same
+    (begin-waits s d is ∙ ap (λ (x : DiskState). begin-tests (is_running s.phase) (is_copied (blocks s.job.shape.disks d) (shown_disk x)) (not (nat_eq x.region 0))) (sym at)
+    ∙ ap (λ (x : ℕ). begin-tests (is_running s.phase) (is_copied x (shown_disk k)) (not (nat_eq k.region 0))) (sym count))
 
-pub read-wait : (s : State) (old : Seen) (n : ℕ) → IsState s → seen_of s ≡ old → n ≡ length s.blocks → wait old.job (view_of old) (Read 0) false ≡ unless (not (is_running s.phase)) NotNow (unless (nat_le s.region n) NotNow None)
-read-wait s old n is same count =
-    subst (λ (m : Seen). wait m.job (view_of m) (Read 0) false ≡ unless (not (is_running s.phase)) NotNow (unless (nat_le s.region n) NotNow None)) same
-    (subst (λ v. wait s.job v (Read 0) false ≡ unless (not (is_running s.phase)) NotNow (unless (nat_le s.region n) NotNow None)) is.shows
-    (ap (λ k. unless (not (is_running s.phase)) NotNow (unless (nat_le s.region k) NotNow None)) (sym count)))
+pub read-wait : (s : State) (old : Seen) (d : ℕ) (k : DiskState) → IsState s → seen_of s ≡ old → k ≡ copy s d →
+    wait (job_of old.job) (view_of old) (Read d) false ≡ unless (not (is_running s.phase)) NotNow (unless (nat_le k.region (length k.blocks)) NotNow None)
+read-wait s old d k is same at =
+    subst (λ (m : Seen). wait (job_of m.job) (view_of m) (Read d) false ≡ unless (not (is_running s.phase)) NotNow (unless (nat_le k.region (length k.blocks)) NotNow None)) same
+    (subst (λ v. wait (job_of s.job) v (Read d) false ≡ unless (not (is_running s.phase)) NotNow (unless (nat_le k.region (length k.blocks)) NotNow None)) is.shows
+    (ap (read-by (is_running s.phase)) (disk-is s d ∙ ap shown_disk (sym at))))
 
 abbrev advance-tests : Bool → Bool → Bool → Bool → Option Why
 advance-tests running none unread full = unless (not running) NotNow (unless none NotNow (unless unread NotNow (unless full Throttled None)))
@@ -83,14 +84,26 @@ no-room : (limit n r : ℕ) → r ≤ 1 → nat_eq r 0 ≡ false → nat_lt (lim
 no-room limit n zero few some = absurd (cc)
 no-room limit n (suc r) few some = room-cases limit n (suc r) (nat_le limit n) refl few (omega arith)
 
-advance-waits : (s : State) → IsState s → wait s.job (run s.job s.journal) (Advance 0) false ≡ advance-tests (is_running s.phase) (nat_eq s.region 0) (nat_lt (length s.blocks) s.region) (is_full s.job (run s.job s.journal))
-advance-waits s is =
-    let l = lies s is in
-    subst (λ v. wait s.job v (Advance 0) false ≡ advance-tests (is_running s.phase) (nat_eq s.region 0) (nat_lt (length s.blocks) s.region) (is_full s.job v)) is.shows
-    (ap (unless (not (is_running s.phase)) NotNow) (split-tests (nat_eq s.region 0) (nat_lt (length s.blocks) s.region) (nat_le s.job.config.outbox (length (heads s.outbox))) (nat_lt (s.job.config.outbox - length (heads s.outbox)) s.region)
-    (λ some. no-room s.job.config.outbox (length (heads s.outbox)) s.region l.at_most_one some)))
+advance-waits : (s : State) (d : ℕ) → IsState s → d < length s.job.shape.disks →
+    wait (job_of s.job) (run (job_of s.job) s.journal) (Advance d) false ≡ advance-tests (is_running s.phase) (nat_eq (copy s d).region 0) (nat_lt (length (copy s d).blocks) (copy s d).region) (is_full (job_of s.job) (run (job_of s.job) s.journal))
+advance-waits s d is lt =
+    let l = lies s d is lt in
+    let room = s.job.config.outbox - length (heads s.outbox) in
+    subst (λ v. wait (job_of s.job) v (Advance d) false ≡ advance-tests (is_running s.phase) (nat_eq (copy s d).region 0) (nat_lt (length (copy s d).blocks) (copy s d).region) (is_full (job_of s.job) v)) is.shows
+    (ap (advance-by (is_running s.phase) room) (disk-is s d)
+    ∙ ap (unless (not (is_running s.phase)) NotNow) (split-tests (nat_eq (copy s d).region 0) (nat_lt (length (copy s d).blocks) (copy s d).region) (nat_le s.job.config.outbox (length (heads s.outbox))) (nat_lt room (copy s d).region)
+    (λ some. no-room s.job.config.outbox (length (heads s.outbox)) (copy s d).region l.at_most_one some)))
 
-pub advance-wait : (s : State) (old : Seen) (n : ℕ) → IsState s → seen_of s ≡ old → n ≡ length s.blocks → wait old.job (view_of old) (Advance 0) false ≡ advance-tests (is_running s.phase) (nat_eq s.region 0) (nat_lt n s.region) (is_full old.job (view_of old))
-advance-wait s old n is same count =
-    subst (λ (m : Seen). wait m.job (view_of m) (Advance 0) false ≡ advance-tests (is_running s.phase) (nat_eq s.region 0) (nat_lt n s.region) (is_full m.job (view_of m))) same
-    (advance-waits s is ∙ ap (λ k. advance-tests (is_running s.phase) (nat_eq s.region 0) (nat_lt k s.region) (is_full s.job (run s.job s.journal))) (sym count))
+pub advance-wait : (s : State) (old : Seen) (d : ℕ) (k : DiskState) → IsState s → seen_of s ≡ old → d < length old.job.shape.disks → k ≡ copy s d →
+    wait (job_of old.job) (view_of old) (Advance d) false ≡ advance-tests (is_running s.phase) (nat_eq k.region 0) (nat_lt (length k.blocks) k.region) (is_full (job_of old.job) (view_of old))
+advance-wait s old d k is same lt at =
+    let here : d < length s.job.shape.disks = subst (λ (m : Seen). d < length m.job.shape.disks) (sym same) lt in
+    subst (λ (m : Seen). wait (job_of m.job) (view_of m) (Advance d) false ≡ advance-tests (is_running s.phase) (nat_eq k.region 0) (nat_lt (length k.blocks) k.region) (is_full (job_of m.job) (view_of m))) same
+    (advance-waits s d is here ∙ ap (λ (x : DiskState). advance-tests (is_running s.phase) (nat_eq x.region 0) (nat_lt (length x.blocks) x.region) (is_full (job_of s.job) (run (job_of s.job) s.journal))) (sym at))
+
+-- the four tests, made one after another
+pub advance-told : (first second third all : Option Why) (p q r t a b c d : Bool) → first ≡ unless t Throttled None → second ≡ unless r NotNow first → third ≡ unless q NotNow second → all ≡ unless (not p) NotNow third →
+    p ≡ a → q ≡ b → r ≡ c → t ≡ d → all ≡ advance-tests a b c d
+advance-told first second third all p q r t a b c d w x y z pa qb rc td =
+    z ∙ ap (λ k. unless (not p) NotNow k) (y ∙ ap (λ k. unless q NotNow k) (x ∙ ap (λ k. unless r NotNow k) w))
+    ∙ ap (λ k. advance-tests k q r t) pa ∙ ap (λ k. advance-tests a k r t) qb ∙ ap (λ k. advance-tests a b k t) rc ∙ ap (λ k. advance-tests a b c k) td

@@ -1,68 +1,55 @@
 -- The events of the copy: what they leave is a state.
-use Rattle.std.specs.Prelude.{◌≡◌, ◌≢◌, ◌≤◌, ◌<◌, ℕ, ◌+◌, ◌-◌, ◌||◌, min, nat_lt, Bool, true, false, List, [], ◌∷◌, ◌++◌, length, set, get_or, Option, None}
+use Rattle.std.specs.Prelude.{◌≡◌, ◌≢◌, ◌≤◌, ◌<◌, ℕ, ◌+◌, ◌-◌, ◌^◌, ◌||◌, min, nat_lt, Bool, true, false, List, [], ◌∷◌, ◌++◌, length, map, set, get_or, None, slice_index, slice_set}
 use Rattle.std.proofs.Common.{arith, refl, ap, sym, subst, ◌∙◌, length-append}
-use Rattle.std.proofs.lemmas.List.{map-append}
-use Rattle.std.specs.Prelude.{slice_index, slice_set}
-use Rattle.xv_model.specs.Job.{Job, UnitId, unit_count, blocks, unit_of_block}
-use Rattle.xv_model.specs.View.{View, Disk, number, no_disk}
-use Rattle.xv_model.specs.Wait.{Event, Why, wait}
-use Rattle.xv_model.specs.Effect.{Turn, effect, answer, with_disk, made, made_run}
+use Rattle.std.proofs.lemmas.Bool.{lt-ltb}
+use Rattle.std.proofs.lemmas.List.{map-append, length-map}
+use Rattle.xv_base.proofs.Within.{good_within}
+use Rattle.xv_model.specs.Job.{UnitId, unit_count, blocks, unit_of_block}
+use Rattle.xv_model.specs.View.{View, Disk, Outbox, number, no_disk}
+use Rattle.xv_model.specs.Wait.{wait}
+use Rattle.xv_model.specs.Effect.{effect, answer, made, made_run}
 use Rattle.xv_model.specs.Step.{Entry, run}
-use Rattle.xv_model.specs.Invariant.{IsViewOf}
-use Rattle.xv_model.specs.Contents.{moves, unit_content}
-use Rattle.xv_model.proofs.GoesOn.{begin_goes, read_goes, advance_goes, ReadGoes, AdvanceGoes}
-use Rattle.xv_model.proofs.Layouts.{is_block, unsent_block_from, cursor_of}
-use Rattle.xv_job.specs.Built.{IsBuilt}
+use Rattle.xv_model.specs.Contents.{moves, unit_content, region_content}
+use Rattle.xv_model.proofs.GoesOn.{begin_goes, read_goes, advance_goes}
+use Rattle.xv_model.proofs.Layouts.{is_block, block_above, unsent_block_from, cursor_of}
+use Rattle.xv_job.specs.Written.{job_of}
 use Rattle.xv_job.specs.BuiltEvents.{has_begin}
-use Rattle.xv_core.specs.State.{State, IsState, shown, held_contents, contents}
+use Rattle.xv_core.specs.Copies.{DiskState, shown_disk}
+use Rattle.xv_core.specs.State.{State, IsState, copy, shown, held_contents, contents}
 use Rattle.xv_core.specs.declared.message.Message.{Message}
 use Rattle.xv_device.specs.Device.{ReadRange}
 use Rattle.xv_device.specs.Memory.{Device, after}
 use Rattle.xv_core.proofs.Runs.{Next, next, next-done}
 use Rattle.xv_core.proofs.Plain.{plain, state-next, has_begin-push, not_begun-before, length-next}
+use Rattle.xv_core.proofs.Shown.{shown-view, shown-goes, shown-effect, shown-moves, shown-answer, disk-is, region-is, disks-length, shown-set, regions-set}
 use Rattle.xv_base.specs.declared.event.Event.TheVariants.{Begin, Read, Advance}
 use Rattle.xv_base.specs.declared.answer.Turn.TheVariants.{Done}
 
--- the view that a state shows, with the invariant, and an event that goes on there
-pub shown-view : (s : State) → IsState s → IsViewOf s.job (shown s (run s.job s.journal))
-shown-view s is = subst (IsViewOf s.job) (sym is.shows) is.view
+-- a disk of the job
+lt-true : (n d : ℕ) → d < n → nat_lt d n ≡ true
+lt-true n d lt = lt-ltb d n lt
 
-pub shown-goes : (s : State) (e : Event) → IsState s → wait s.job (run s.job s.journal) e false ≡ None → wait s.job (shown s (run s.job s.journal)) e false ≡ None
-shown-goes s e is goes = subst (λ v. wait s.job v e false ≡ None) (sym is.shows) goes
+-- where a region lies
+pub record Lies (s : State) (d : ℕ) : Type 0 where
+  pub within : (copy s d).cursor + (copy s d).region ≤ blocks s.job.shape.disks d
+  pub at_most_one : (copy s d).region ≤ 1
+  pub read_within : length (copy s d).blocks ≤ (copy s d).region
 
-pub shown-wait : (s : State) (e : Event) (why : Option Why) → IsState s → wait s.job (shown s (run s.job s.journal)) e false ≡ why → wait s.job (run s.job s.journal) e false ≡ why
-shown-wait s e why is same = subst (λ v. wait s.job v e false ≡ why) is.shows same
+lies-by : (k : Disk) (c : DiskState) (most limit : ℕ) → k ≡ shown_disk c → k.cursor + k.region ≤ most → k.region ≤ limit → k.got ≤ k.region → limit ≡ 1 →
+    (c.cursor + c.region ≤ most) × (c.region ≤ 1) × (length c.blocks ≤ c.region)
+lies-by k c most limit is within few read one =
+    let cursor : k.cursor ≡ c.cursor = ap (λ (x : Disk). x.cursor) is in
+    let region : k.region ≡ c.region = ap (λ (x : Disk). x.region) is in
+    let got : k.got ≡ length c.blocks = ap (λ (x : Disk). x.got) is in
+    (omega arith, omega arith, omega arith)
 
--- an effect that is told of what is shown
-pub shown-effect : (s new : State) (e : Event) → IsState s →
-    shown new (effect s.job (shown s (run s.job s.journal)) e) ≡ effect s.job (shown s (run s.job s.journal)) e →
-    shown new (effect s.job (run s.job s.journal) e) ≡ effect s.job (run s.job s.journal) e
-shown-effect s new e is same = subst (λ v. shown new (effect s.job v e) ≡ effect s.job v e) is.shows same
-
-pub shown-moves : (s new : State) (e : Event) → IsState s →
-    held_contents new ≡ moves s.job (shown s (run s.job s.journal)) e (held_contents s) →
-    held_contents new ≡ moves s.job (run s.job s.journal) e (held_contents s)
-shown-moves s new e is same = subst (λ v. held_contents new ≡ moves s.job v e (held_contents s)) is.shows same
-
-pub shown-answer : (s : State) (e : Event) (t : Turn) → IsState s → answer s.job (shown s (run s.job s.journal)) e ≡ t → answer s.job (run s.job s.journal) e ≡ t
-shown-answer s e t is same = subst (λ v. answer s.job v e ≡ t) is.shows same
-
--- the one disk of the job
-one-fits : (job : Job) → IsBuilt job → nat_lt 0 (length job.shape.disks) ≡ true
-one-fits job built = ap (nat_lt 0) built.one_disk
-
--- where the region lies
-pub record Lies (s : State) : Type 0 where
-  pub within : s.cursor + s.region ≤ blocks s.job.shape.disks 0
-  pub at_most_one : s.region ≤ 1
-  pub read_within : length s.blocks ≤ s.region
-
-pub lies : (s : State) → IsState s → Lies s
-lies s is =
+pub lies : (s : State) (d : ℕ) → IsState s → d < length s.job.shape.disks → Lies s d
+lies s d is lt =
     let r = (shown-view s is).regions in
-    let few : s.region ≤ s.job.config.region = r.region_fits 0 in
-    let one = is.built.region in
-    record { within = r.cursor_fits 0 (omega arith); at_most_one = omega arith; read_within = r.read_fits 0 }
+    let long = length-map s.disks shown_disk in
+    let same = disks-length s is in
+    let x = lies-by (get_or (map shown_disk s.disks) d no_disk) (copy s d) (blocks s.job.shape.disks d) s.job.config.region (disk-is s d) (r.cursor_fits d (omega arith)) (r.region_fits d) (r.read_fits d) is.built.region in
+    record { within = x.0; at_most_one = x.1; read_within = x.2 }
 
 pub nil : {X : Type 0} (xs : List X) → length xs ≡ 0 → xs ≡ []
 nil [] e = refl
@@ -78,234 +65,287 @@ or-true : (b : Bool) → (b || true) ≡ true
 or-true true = refl
 or-true false = refl
 
--- the region begins
-begin-length : (s : State) → IsState s → wait s.job (run s.job s.journal) (Begin 0) false ≡ None → min s.job.config.region (blocks s.job.shape.disks 0 - s.cursor) ≡ 1
-begin-length s is goes =
-    let g = begin_goes s.job (shown s (run s.job s.journal)) 0 false (shown-goes s (Begin 0) is goes) in
-    let l = lies s is in
-    let far : s.cursor ≢ blocks s.job.shape.disks 0 = g.not_copied in
-    let one = is.built.region in
-    omega arith
+-- a region begins
+pub record Begins (s : State) (d : ℕ) : Type 0 where
+  pub ahead : (copy s d).cursor < blocks s.job.shape.disks d
+  pub no_region : (copy s d).region ≡ 0
+  pub none_read : (copy s d).blocks ≡ []
 
-pub begin-answer : (s : State) → IsState s → wait s.job (run s.job s.journal) (Begin 0) false ≡ None → answer s.job (run s.job s.journal) (Begin 0) ≡ Done (record { a = 1; b = 0 })
-begin-answer s is goes = shown-answer s (Begin 0) _ is (ap (λ n. Done (record { a = n; b = 0 })) (begin-length s is goes))
+module _ (s : State) (d : ℕ) (is : IsState s) (lt : d < length s.job.shape.disks) where
+  pub begins : wait (job_of s.job) (run (job_of s.job) s.journal) (Begin d) false ≡ None → Begins s d
+  begins goes =
+      let g = begin_goes (job_of s.job) (shown s (run (job_of s.job) s.journal)) d false (shown-goes s (Begin d) is goes) in
+      let l = lies s d is lt in
+      let region : (copy s d).region ≡ 0 = ap (λ (x : Disk). x.region) (sym (disk-is s d)) ∙ g.no_region in
+      let far : (copy s d).cursor ≢ blocks s.job.shape.disks d = λ e. g.not_copied (ap (λ (x : Disk). x.cursor) (disk-is s d) ∙ e) in
+      let within = l.within in
+      record {
+        ahead = omega arith;
+        no_region = region;
+        none_read = nil (copy s d).blocks (omega (arith, l.read_within));
+      }
 
-pub begin-next : (s : State) → IsState s → wait s.job (run s.job s.journal) (Begin 0) false ≡ None → Next s (Begin 0)
-begin-next s is goes = next-done s (Begin 0) _ is (one-fits s.job is.built) goes (begin-answer s is goes)
+  begin-length : wait (job_of s.job) (run (job_of s.job) s.journal) (Begin d) false ≡ None → min s.job.config.region (blocks s.job.shape.disks d - (copy s d).cursor) ≡ 1
+  begin-length goes =
+      let b = (begins goes).ahead in
+      let one = is.built.region in
+      omega arith
 
-pub begin-holds : (s : State) (j : List Entry) → IsState s → wait s.job (run s.job s.journal) (Begin 0) false ≡ None → j ≡ next s (Begin 0) → IsState (record s { journal = j; region = 1 })
-begin-holds s j is goes same =
-    let v = run s.job s.journal in
-    let new : State = record s { journal = j; region = 1 } in
-    let g = begin_goes s.job (shown s v) 0 false (shown-goes s (Begin 0) is goes) in
-    let none : s.region ≡ 0 = g.no_region in
-    let l = lies s is in
-    let unread : length s.blocks ≡ 0 = omega arith in
-    let empty : s.blocks ≡ [] = nil s.blocks unread in
-    let longer : length j ≡ length s.journal + 1 = ap length same ∙ length-next s (Begin 0) in
-    let p = plain s is in
-    state-next s new (Begin 0) (begin-next s is goes) refl same
-    (shown-effect s new (Begin 0) is (ap (λ (d : Disk). with_disk (shown s v) 0 d) (same-disk s.cursor 1 (min s.job.config.region (blocks s.job.shape.disks 0 - s.cursor)) (length s.blocks) 0 (sym (begin-length s is goes)) unread)))
-    (shown-moves s new (Begin 0) is (ap (λ bs. record (held_contents s) { regions = bs ∷ [] }) empty))
-    (record {
-      good = p.good;
-      built = p.built;
-      unwritten = p.unwritten;
-      source_made = p.source_made;
-      dest_made = p.dest_made;
-      source_counts = p.source_counts;
-      dest_counts = p.dest_counts;
-      source_shape = p.source_shape;
-      dest_shape = p.dest_shape;
-      no_late_page = p.no_late_page;
-      next_page_within = p.next_page_within;
-      few_rounds = p.few_rounds;
-      not_begun = λ h. let on = sym (ap has_begin same ∙ has_begin-push s.journal _ ∙ or-true (has_begin s.journal)) ∙ h in absurd (cc);
-      history_room = p.history_room;
-      source_plan = p.source_plan;
-      dest_plan = p.dest_plan;
-      source_calls = (omega (arith, p.source_calls), omega (arith, p.source_calls));
-      dest_calls = (omega (arith, p.dest_calls), omega (arith, p.dest_calls));
-    })
+  pub begin-answer : wait (job_of s.job) (run (job_of s.job) s.journal) (Begin d) false ≡ None → answer (job_of s.job) (run (job_of s.job) s.journal) (Begin d) ≡ Done (record { a = 1; b = 0 })
+  begin-answer goes = shown-answer s (Begin d) _ is
+      (ap (λ (k : Disk). Done (record { a = min s.job.config.region (blocks s.job.shape.disks d - k.cursor); b = 0 })) (disk-is s d)
+      ∙ ap (λ n. Done (record { a = n; b = 0 })) (begin-length goes))
 
--- a block of the region is read
-pub read-goes : (s : State) → IsState s → wait s.job (run s.job s.journal) (Read 0) false ≡ None → ReadGoes s.job (shown s (run s.job s.journal)) 0
-read-goes s is goes = read_goes s.job (shown s (run s.job s.journal)) 0 false (shown-goes s (Read 0) is goes)
+  pub begin-next : wait (job_of s.job) (run (job_of s.job) s.journal) (Begin d) false ≡ None → Next s (Begin d)
+  begin-next goes = next-done s (Begin d) _ is (lt-true (length s.job.shape.disks) d lt) goes (begin-answer goes)
 
-pub none-read : (s : State) → IsState s → wait s.job (run s.job s.journal) (Read 0) false ≡ None → length s.blocks ≡ 0
-none-read s is goes =
-    let l = lies s is in
-    let more : length s.blocks < s.region = (read-goes s is goes).not_read in
-    omega arith
+  pub begin-holds : (j : List Entry) → wait (job_of s.job) (run (job_of s.job) s.journal) (Begin d) false ≡ None → j ≡ next s (Begin d) →
+      IsState (record s { journal = j; disks = set s.disks d (record (copy s d) { region = 1 }) })
+  begin-holds j goes same =
+      let v = run (job_of s.job) s.journal in
+      let c = copy s d in
+      let new : State = record s { journal = j; disks = set s.disks d (record c { region = 1 }) } in
+      let b = begins goes in
+      let begun : Disk → Disk = λ (k : Disk). record k { region = min s.job.config.region (blocks s.job.shape.disks d - k.cursor); got = 0 } in
+      let unread : length c.blocks ≡ 0 = ap length b.none_read in
+      let disk_of : shown_disk (record c { region = 1 }) ≡ begun (get_or (map shown_disk s.disks) d no_disk) =
+      same-disk c.cursor 1 (min s.job.config.region (blocks s.job.shape.disks d - c.cursor)) (length c.blocks) 0 (sym (begin-length goes)) unread ∙ ap begun (sym (disk-is s d)) in
+      let longer : length j ≡ length s.journal + 1 = ap length same ∙ length-next s (Begin d) in
+      let p = plain s is in
+      state-next s new (Begin d) (begin-next goes) refl same
+      (shown-effect s new (Begin d) is (ap (λ ds. record (shown s v) { disks = ds }) (shown-set s d (record c { region = 1 }) _ disk_of)))
+      (shown-moves s new (Begin d) is (ap (λ rs. record (held_contents s) { regions = rs }) (regions-set s d (record c { region = 1 }) [] b.none_read)))
+      (record {
+        good = p.good;
+        built = p.built;
+        unwritten = p.unwritten;
+        source_made = p.source_made;
+        dest_made = p.dest_made;
+        source_counts = p.source_counts;
+        dest_counts = p.dest_counts;
+        source_shape = p.source_shape;
+        dest_shape = p.dest_shape;
+        no_late_page = p.no_late_page;
+        next_page_within = p.next_page_within;
+        few_rounds = p.few_rounds;
+        not_begun = λ h. let on = sym (ap has_begin same ∙ has_begin-push s.journal _ ∙ or-true (has_begin s.journal)) ∙ h in absurd (cc);
+        history_room = p.history_room;
+        source_plan = p.source_plan;
+        dest_plan = p.dest_plan;
+        source_calls = (omega (arith, p.source_calls), omega (arith, p.source_calls));
+        dest_calls = (omega (arith, p.dest_calls), omega (arith, p.dest_calls));
+      })
 
-pub read-in : (s : State) → IsState s → wait s.job (run s.job s.journal) (Read 0) false ≡ None → s.cursor < blocks s.job.shape.disks 0
-read-in s is goes =
-    let l = lies s is in
-    let more : length s.blocks < s.region = (read-goes s is goes).not_read in
-    omega arith
+-- a block of a region is read: the first, at the cursor
+pub record Reads (s : State) (d : ℕ) : Type 0 where
+  pub ahead : (copy s d).cursor < blocks s.job.shape.disks d
+  pub some_region : 0 < (copy s d).region
+  pub none_read : length (copy s d).blocks ≡ 0
 
--- the unit of the block at the cursor
-abbrev pub block-unit : State → ℕ
-block-unit s = unit_of_block s.job.shape 0 s.cursor
+abbrev pub block-unit : State → ℕ → ℕ
+block-unit s d = unit_of_block s.job.shape d (copy s d).cursor
 
-block-number : (s : State) → IsState s → wait s.job (run s.job s.journal) (Read 0) false ≡ None → block-unit s + length s.blocks ≡ block-unit s
-block-number s is goes = let none = none-read s is goes in omega arith
+module _ (s : State) (d : ℕ) (is : IsState s) (lt : d < length s.job.shape.disks) where
+  pub reads : wait (job_of s.job) (run (job_of s.job) s.journal) (Read d) false ≡ None → Reads s d
+  reads goes =
+      let g = (read_goes (job_of s.job) (shown s (run (job_of s.job) s.journal)) d false (shown-goes s (Read d) is goes)).not_read in
+      let l = lies s d is lt in
+      let region : (get_or (map shown_disk s.disks) d no_disk).region ≡ (copy s d).region = ap (λ (x : Disk). x.region) (disk-is s d) in
+      let got : (get_or (map shown_disk s.disks) d no_disk).got ≡ length (copy s d).blocks = ap (λ (x : Disk). x.got) (disk-is s d) in
+      let within = l.within in
+      let one = l.at_most_one in
+      record { ahead = omega arith; some_region = omega arith; none_read = omega arith }
 
-pub read-answer : (s : State) → IsState s → wait s.job (run s.job s.journal) (Read 0) false ≡ None → answer s.job (run s.job s.journal) (Read 0) ≡ Done (record { a = block-unit s; b = 0 })
-read-answer s is goes = shown-answer s (Read 0) _ is (ap (λ n. Done (record { a = n; b = 0 })) (block-number s is goes))
+  block-number : wait (job_of s.job) (run (job_of s.job) s.journal) (Read d) false ≡ None → block-unit s d + length (copy s d).blocks ≡ block-unit s d
+  block-number goes = let none = (reads goes).none_read in omega arith
 
-pub read-next : (s : State) → IsState s → wait s.job (run s.job s.journal) (Read 0) false ≡ None → Next s (Read 0)
-read-next s is goes = next-done s (Read 0) _ is (one-fits s.job is.built) goes (read-answer s is goes)
+  pub read-answer : wait (job_of s.job) (run (job_of s.job) s.journal) (Read d) false ≡ None → answer (job_of s.job) (run (job_of s.job) s.journal) (Read d) ≡ Done (record { a = block-unit s d; b = 0 })
+  read-answer goes = shown-answer s (Read d) _ is
+      (ap (λ (k : Disk). Done (record { a = unit_of_block s.job.shape d k.cursor + k.got; b = 0 })) (disk-is s d)
+      ∙ ap (λ n. Done (record { a = n; b = 0 })) (block-number goes))
 
-read-by : (s : State) (j : List Entry) (n : ℕ) → IsState s → wait s.job (run s.job s.journal) (Read 0) false ≡ None → j ≡ next s (Read 0) →
-    IsState (record s { journal = j; source = after (ReadRange (block-unit s) 0 n) false s.source; blocks = s.blocks ++ unit_content s.source.contents (block-unit s) ∷ [] })
-read-by s j n is goes same =
-    let v = run s.job s.journal in
-    let new : State = record s { journal = j; source = after (ReadRange (block-unit s) 0 n) false s.source; blocks = s.blocks ++ unit_content s.source.contents (block-unit s) ∷ [] } in
-    let longer : length j ≡ length s.journal + 1 = ap length same ∙ length-next s (Read 0) in
-    let p = plain s is in
-    state-next s new (Read 0) (read-next s is goes) refl same
-    (shown-effect s new (Read 0) is (ap (λ k. with_disk (shown s v) 0 (disk-with s.cursor s.region k)) (length-append s.blocks (unit_content s.source.contents (block-unit s) ∷ []))))
-    (shown-moves s new (Read 0) is (ap (λ u. record (held_contents s) { regions = (s.blocks ++ unit_content s.source.contents u ∷ []) ∷ [] }) (sym (block-number s is goes))))
-    (record {
-      good = p.good;
-      built = p.built;
-      unwritten = p.unwritten;
-      source_made = p.source_made;
-      dest_made = p.dest_made;
-      source_counts = p.source_counts;
-      dest_counts = p.dest_counts;
-      source_shape = p.source_shape;
-      dest_shape = p.dest_shape;
-      no_late_page = p.no_late_page;
-      next_page_within = p.next_page_within;
-      few_rounds = p.few_rounds;
-      not_begun = λ h. p.not_begun (not_begun-before s (Read 0) (sym (ap has_begin same) ∙ h));
-      history_room = p.history_room;
-      source_plan = p.source_plan;
-      dest_plan = p.dest_plan;
-      source_calls = (omega (arith, p.source_calls), omega (arith, p.source_calls));
-      dest_calls = (omega (arith, p.dest_calls), omega (arith, p.dest_calls));
-    })
+  pub read-next : wait (job_of s.job) (run (job_of s.job) s.journal) (Read d) false ≡ None → Next s (Read d)
+  read-next goes = next-done s (Read d) _ is (lt-true (length s.job.shape.disks) d lt) goes (read-answer goes)
 
-pub read-holds : (s : State) (j : List Entry) (unit n : ℕ) (source : Device) (blocks : List (List ℕ)) → IsState s → wait s.job (run s.job s.journal) (Read 0) false ≡ None → j ≡ next s (Read 0) →
-    unit ≡ block-unit s → source ≡ after (ReadRange unit 0 n) false s.source → blocks ≡ s.blocks ++ unit_content s.source.contents unit ∷ [] → IsState (record s { journal = j; source = source; blocks = blocks })
-read-holds s j unit n source blocks is goes same at read more =
-    subst (λ bs. IsState (record s { journal = j; source = source; blocks = bs })) (sym (more ∙ ap (λ u. s.blocks ++ unit_content s.source.contents u ∷ []) at))
-    (subst (λ d. IsState (record s { journal = j; source = d; blocks = s.blocks ++ unit_content s.source.contents (block-unit s) ∷ [] })) (sym (read ∙ ap (λ u. after (ReadRange u 0 n) false s.source) at)) (read-by s j n is goes same))
+  pub read-unit : wait (job_of s.job) (run (job_of s.job) s.journal) (Read d) false ≡ None → block-unit s d < unit_count (job_of s.job)
+  read-unit goes = (is_block s.job.shape d (copy s d).cursor lt (reads goes).ahead).in_range
 
--- the region is over, and its block is behind
-pub advance-goes : (s : State) → IsState s → wait s.job (run s.job s.journal) (Advance 0) false ≡ None → AdvanceGoes s.job (shown s (run s.job s.journal)) 0
-advance-goes s is goes = advance_goes s.job (shown s (run s.job s.journal)) 0 false (shown-goes s (Advance 0) is goes)
+  read-by : (j : List Entry) (n : ℕ) → wait (job_of s.job) (run (job_of s.job) s.journal) (Read d) false ≡ None → j ≡ next s (Read d) →
+      IsState (record s { journal = j; source = after (ReadRange (block-unit s d) 0 n) false s.source; disks = set s.disks d (record (copy s d) { blocks = (copy s d).blocks ++ unit_content s.source.contents (block-unit s d) ∷ [] }) })
+  read-by j n goes same =
+      let v = run (job_of s.job) s.journal in
+      let c = copy s d in
+      let block = unit_content s.source.contents (block-unit s d) in
+      let c' : DiskState = record c { blocks = c.blocks ++ block ∷ [] } in
+      let new : State = record s { journal = j; source = after (ReadRange (block-unit s d) 0 n) false s.source; disks = set s.disks d c' } in
+      let r = reads goes in
+      let read_one : Disk → Disk = λ (k : Disk). record k { got = k.got + 1 } in
+      let disk_of : shown_disk c' ≡ read_one (get_or (map shown_disk s.disks) d no_disk) =
+      ap (λ k. disk-with c.cursor c.region k) (length-append c.blocks (block ∷ [])) ∙ ap read_one (sym (disk-is s d)) in
+      let blocks_of : c.blocks ++ block ∷ [] ≡ region_content (held_contents s) d ++ unit_content s.source.contents (unit_of_block s.job.shape d (get_or (map shown_disk s.disks) d no_disk).cursor + (get_or (map shown_disk s.disks) d no_disk).got) ∷ [] =
+      ap (λ u. c.blocks ++ unit_content s.source.contents u ∷ []) (sym (block-number goes))
+      ∙ ap (λ (k : Disk). c.blocks ++ unit_content s.source.contents (unit_of_block s.job.shape d k.cursor + k.got) ∷ []) (sym (disk-is s d))
+      ∙ ap (λ bs. bs ++ unit_content s.source.contents (unit_of_block s.job.shape d (get_or (map shown_disk s.disks) d no_disk).cursor + (get_or (map shown_disk s.disks) d no_disk).got) ∷ []) (sym (region-is s d)) in
+      let longer : length j ≡ length s.journal + 1 = ap length same ∙ length-next s (Read d) in
+      let p = plain s is in
+      state-next s new (Read d) (read-next goes) refl same
+      (shown-effect s new (Read d) is (ap (λ ds. record (shown s v) { disks = ds }) (shown-set s d c' _ disk_of)))
+      (shown-moves s new (Read d) is (ap (λ rs. record (held_contents s) { regions = rs }) (regions-set s d c' _ blocks_of)))
+      (record {
+        good = p.good;
+        built = p.built;
+        unwritten = p.unwritten;
+        source_made = p.source_made;
+        dest_made = p.dest_made;
+        source_counts = p.source_counts;
+        dest_counts = p.dest_counts;
+        source_shape = p.source_shape;
+        dest_shape = p.dest_shape;
+        no_late_page = p.no_late_page;
+        next_page_within = p.next_page_within;
+        few_rounds = p.few_rounds;
+        not_begun = λ h.
+            let none : c.region ≡ 0 = (p.not_begun (not_begun-before s (Read d) (sym (ap has_begin same) ∙ h)) d).1 in
+            let some = r.some_region in
+            absurd (omega arith);
+        history_room = p.history_room;
+        source_plan = p.source_plan;
+        dest_plan = p.dest_plan;
+        source_calls = (omega (arith, p.source_calls), omega (arith, p.source_calls));
+        dest_calls = (omega (arith, p.dest_calls), omega (arith, p.dest_calls));
+      })
 
-pub one-region : (s : State) → IsState s → wait s.job (run s.job s.journal) (Advance 0) false ≡ None → s.region ≡ 1
-one-region s is goes =
-    let l = lies s is in
-    let some : 0 < s.region = (advance-goes s is goes).some_region in
-    omega arith
+  pub read-holds : (j : List Entry) (unit n : ℕ) (source : Device) (content : List ℕ) (disks : List DiskState) → wait (job_of s.job) (run (job_of s.job) s.journal) (Read d) false ≡ None → j ≡ next s (Read d) →
+      unit ≡ block-unit s d → source ≡ after (ReadRange unit 0 n) false s.source → content ≡ unit_content s.source.contents unit →
+      disks ≡ set s.disks d (record (copy s d) { blocks = (copy s d).blocks ++ content ∷ [] }) → IsState (record s { journal = j; source = source; disks = disks })
+  read-holds j unit n source content disks goes same at read found kept =
+      let keeping : List ℕ → List DiskState = λ x. set s.disks d (record (copy s d) { blocks = (copy s d).blocks ++ x ∷ [] }) in
+      subst (λ ds. IsState (record s { journal = j; source = source; disks = ds })) (sym (kept ∙ ap keeping (found ∙ ap (unit_content s.source.contents) at)))
+      (subst (λ dev. IsState (record s { journal = j; source = dev; disks = keeping (unit_content s.source.contents (block-unit s d)) })) (sym (read ∙ ap (λ u. after (ReadRange u 0 n) false s.source) at)) (read-by j n goes same))
 
-pub one-read : (s : State) → IsState s → wait s.job (run s.job s.journal) (Advance 0) false ≡ None → length s.blocks ≡ 1
-one-read s is goes =
-    let l = lies s is in
-    let one = one-region s is goes in
-    let all : s.region ≤ length s.blocks = (advance-goes s is goes).all_read in
-    omega arith
-
-pub advance-in : (s : State) → IsState s → wait s.job (run s.job s.journal) (Advance 0) false ≡ None → s.cursor < blocks s.job.shape.disks 0
-advance-in s is goes =
-    let l = lies s is in
-    let one = one-region s is goes in
-    omega arith
-
-pub advance-answer : (s : State) → IsState s → wait s.job (run s.job s.journal) (Advance 0) false ≡ None → answer s.job (run s.job s.journal) (Advance 0) ≡ Done (record { a = 1; b = 0 })
-advance-answer s is goes = shown-answer s (Advance 0) _ is (ap (λ n. Done (record { a = n; b = 0 })) (one-region s is goes))
-
-pub advance-next : (s : State) → IsState s → wait s.job (run s.job s.journal) (Advance 0) false ≡ None → Next s (Advance 0)
-advance-next s is goes = next-done s (Advance 0) _ is (one-fits s.job is.built) goes (advance-answer s is goes)
+-- a region is over, and its block is behind
+pub record Advances (s : State) (d : ℕ) : Type 0 where
+  pub ahead : (copy s d).cursor < blocks s.job.shape.disks d
+  pub one_region : (copy s d).region ≡ 1
+  pub one_read : length (copy s d).blocks ≡ 1
 
 -- the message of a unit's next version
 abbrev pub next-message : State → ℕ → List ℕ → Message
 next-message s unit content = record { head = record { unit = record { 0 = unit }; version = number s.issued unit + 1; at = length s.history }; content = content }
 
-no-more : (s : State) → block-unit s + 0 ≡ block-unit s
-no-more s = omega arith
+no-more : (n : ℕ) → n + 0 ≡ n
+no-more n = omega arith
 
-advance-by : (s : State) (j : List Entry) (block : List ℕ) → IsState s → wait s.job (run s.job s.journal) (Advance 0) false ≡ None → j ≡ next s (Advance 0) → s.blocks ≡ block ∷ [] →
-    IsState (record s { journal = j; cursor = s.cursor + 1; region = 0; blocks = []; outbox = s.outbox ++ next-message s (block-unit s) block ∷ []; issued = set s.issued (block-unit s) (number s.issued (block-unit s) + 1) })
-advance-by s j block is goes same read =
-    let v = run s.job s.journal in
-    let message = next-message s (block-unit s) block in
-    let new : State = record s { journal = j; cursor = s.cursor + 1; region = 0; blocks = []; outbox = s.outbox ++ message ∷ []; issued = set s.issued (block-unit s) (number s.issued (block-unit s) + 1) } in
-    let longer : length j ≡ length s.journal + 1 = ap length same ∙ length-next s (Advance 0) in
-    let p = plain s is in
-    let at_one : View = record (shown s v) { disks = disk-with (s.cursor + 1) 0 0 ∷ []; outbox = made (shown s v).outbox (block-unit s) (length s.history) } in
-    let does : at_one ≡ effect s.job (shown s v) (Advance 0) =
-    ap (λ u. record (shown s v) { disks = disk-with (s.cursor + 1) 0 0 ∷ []; outbox = made (shown s v).outbox u (length s.history) }) (sym (no-more s))
-    ∙ ap (λ r. record (shown s v) { disks = disk-with (s.cursor + r) 0 0 ∷ []; outbox = made_run (shown s v).outbox (block-unit s) (length s.history) r }) (sym (one-region s is goes)) in
-    let shows : shown new at_one ≡ at_one = ap (λ ms. record at_one { outbox = record at_one.outbox { messages = ms } }) (map-append (λ (m : Message). m.head) s.outbox (message ∷ [])) in
-    let holds : held_contents new ≡ moves s.job (shown s v) (Advance 0) (held_contents s) =
-    ap (λ ms. record (held_contents s) { regions = [] ∷ []; outbox = ms }) (map-append (λ (m : Message). m.content) s.outbox (message ∷ []))
-    ∙ ap (λ bs. record (held_contents s) { regions = [] ∷ []; outbox = contents s.outbox ++ bs }) (sym read) in
-    state-next s new (Advance 0) (advance-next s is goes) refl same
-    (shown-effect s new (Advance 0) is (subst (λ w. shown new w ≡ w) does shows))
-    (shown-moves s new (Advance 0) is holds)
-    (record {
-      good = p.good;
-      built = p.built;
-      unwritten = p.unwritten;
-      source_made = p.source_made;
-      dest_made = p.dest_made;
-      source_counts = p.source_counts;
-      dest_counts = p.dest_counts;
-      source_shape = p.source_shape;
-      dest_shape = p.dest_shape;
-      no_late_page = p.no_late_page;
-      next_page_within = p.next_page_within;
-      few_rounds = p.few_rounds;
-      not_begun = λ h.
-          let none : s.region ≡ 0 = (p.not_begun (not_begun-before s (Advance 0) (sym (ap has_begin same) ∙ h))).1 in
-          let one = one-region s is goes in
-          absurd (omega arith);
-      history_room = p.history_room;
-      source_plan = p.source_plan;
-      dest_plan = p.dest_plan;
-      source_calls = (omega (arith, p.source_calls), omega (arith, p.source_calls));
-      dest_calls = (omega (arith, p.dest_calls), omega (arith, p.dest_calls));
-    })
+module _ (s : State) (d : ℕ) (is : IsState s) (lt : d < length s.job.shape.disks) where
+  pub advances : wait (job_of s.job) (run (job_of s.job) s.journal) (Advance d) false ≡ None → Advances s d
+  advances goes =
+      let g = advance_goes (job_of s.job) (shown s (run (job_of s.job) s.journal)) d false (shown-goes s (Advance d) is goes) in
+      let l = lies s d is lt in
+      let region : (get_or (map shown_disk s.disks) d no_disk).region ≡ (copy s d).region = ap (λ (x : Disk). x.region) (disk-is s d) in
+      let got : (get_or (map shown_disk s.disks) d no_disk).got ≡ length (copy s d).blocks = ap (λ (x : Disk). x.got) (disk-is s d) in
+      let within = l.within in
+      let one = l.at_most_one in
+      let read = l.read_within in
+      let some = g.some_region in
+      let all = g.all_read in
+      record { ahead = omega arith; one_region = omega arith; one_read = omega arith }
 
--- the block at the cursor has no message yet
-pub unmade : (s : State) → IsState s → s.cursor < blocks s.job.shape.disks 0 → number s.issued (block-unit s) ≡ 0
-unmade s is l =
-    let one = is.built.one_disk in
-    let b = is_block s.job.shape 0 s.cursor (omega arith) l in
-    let disks : List Disk = disk-with s.cursor s.region (length s.blocks) ∷ [] in
-    let here : cursor_of s.job.shape disks (block-unit s) ≡ s.cursor = ap (λ d. (get_or disks d no_disk).cursor) b.disk in
-    (shown-view s is).unsent.none (block-unit s) (unsent_block_from s.job.shape disks (block-unit s) (record { in_range = b.in_range; no_page = b.no_page; not_behind = omega (arith, here, b.block) }))
+  pub advance-answer : wait (job_of s.job) (run (job_of s.job) s.journal) (Advance d) false ≡ None → answer (job_of s.job) (run (job_of s.job) s.journal) (Advance d) ≡ Done (record { a = 1; b = 0 })
+  advance-answer goes = shown-answer s (Advance d) _ is
+      (ap (λ (k : Disk). Done (record { a = k.region; b = 0 })) (disk-is s d) ∙ ap (λ n. Done (record { a = n; b = 0 })) (advances goes).one_region)
 
-pub advance-unit : (s : State) → IsState s → s.cursor < blocks s.job.shape.disks 0 → block-unit s < unit_count s.job
-advance-unit s is l = let one = is.built.one_disk in (is_block s.job.shape 0 s.cursor (omega arith) l).in_range
+  pub advance-next : wait (job_of s.job) (run (job_of s.job) s.journal) (Advance d) false ≡ None → Next s (Advance d)
+  advance-next goes = next-done s (Advance d) _ is (lt-true (length s.job.shape.disks) d lt) goes (advance-answer goes)
 
-last-left : {X : Type 0} (xs : List X) (x : X) → length (xs ++ x ∷ []) ≡ 1 → xs ≡ []
-last-left [] x e = refl
-last-left (y ∷ xs) x e = absurd (let l = length-append xs (x ∷ []) in omega arith)
+  advance-by : (j : List Entry) (block : List ℕ) → wait (job_of s.job) (run (job_of s.job) s.journal) (Advance d) false ≡ None → j ≡ next s (Advance d) → (copy s d).blocks ≡ block ∷ [] →
+      IsState (record s { journal = j; disks = set s.disks d (record { cursor = (copy s d).cursor + 1; region = 0; blocks = [] }); outbox = s.outbox ++ next-message s (block-unit s d) block ∷ []; issued = set s.issued (block-unit s d) (number s.issued (block-unit s d) + 1) })
+  advance-by j block goes same read =
+      let v = run (job_of s.job) s.journal in
+      let c = copy s d in
+      let a = advances goes in
+      let message = next-message s (block-unit s d) block in
+      let c' : DiskState = record { cursor = c.cursor + 1; region = 0; blocks = [] } in
+      let new : State = record s { journal = j; disks = set s.disks d c'; outbox = s.outbox ++ message ∷ []; issued = set s.issued (block-unit s d) (number s.issued (block-unit s d) + 1) } in
+      let longer : length j ≡ length s.journal + 1 = ap length same ∙ length-next s (Advance d) in
+      let p = plain s is in
+      let ds = map shown_disk s.disks in
+      let with_box : List Disk → Outbox → View = λ (xs : List Disk) (box : Outbox). record (shown s v) { disks = xs; outbox = box } in
+      let advanced_at : Disk → View = λ (k : Disk).
+      with_box (set ds d (record k { cursor = k.cursor + k.region; region = 0; got = 0 })) (made_run (shown s v).outbox (unit_of_block s.job.shape d k.cursor) (length s.history) k.region) in
+      let at_one : View = with_box (set ds d (disk-with (c.cursor + 1) 0 0)) (made (shown s v).outbox (block-unit s d) (length s.history)) in
+      let does : at_one ≡ effect (job_of s.job) (shown s v) (Advance d) =
+      ap (λ u. with_box (set ds d (disk-with (c.cursor + 1) 0 0)) (made (shown s v).outbox u (length s.history))) (sym (no-more (block-unit s d)))
+      ∙ ap (λ r. with_box (set ds d (disk-with (c.cursor + r) 0 0)) (made_run (shown s v).outbox (block-unit s d) (length s.history) r)) (sym a.one_region)
+      ∙ ap advanced_at (sym (disk-is s d)) in
+      let shows : shown new at_one ≡ at_one =
+      ap (λ xs. record (shown new at_one) { disks = xs }) (shown-set s d c' _ refl)
+      ∙ ap (λ ms. record at_one { outbox = record at_one.outbox { messages = ms } }) (map-append (λ (m : Message). m.head) s.outbox (message ∷ [])) in
+      let holds : held_contents new ≡ moves (job_of s.job) (shown s v) (Advance d) (held_contents s) =
+      ap (λ rs. record (held_contents s) { regions = rs; outbox = contents (s.outbox ++ message ∷ []) }) (regions-set s d c' [] refl)
+      ∙ ap (λ ms. record (held_contents s) { regions = set (map (λ (x : DiskState). x.blocks) s.disks) d []; outbox = ms }) (map-append (λ (m : Message). m.content) s.outbox (message ∷ []))
+      ∙ ap (λ bs. record (held_contents s) { regions = set (map (λ (x : DiskState). x.blocks) s.disks) d []; outbox = contents s.outbox ++ bs }) (sym (region-is s d ∙ read)) in
+      state-next s new (Advance d) (advance-next goes) refl same
+      (shown-effect s new (Advance d) is (subst (λ w. shown new w ≡ w) does shows))
+      (shown-moves s new (Advance d) is holds)
+      (record {
+        good = p.good;
+        built = p.built;
+        unwritten = p.unwritten;
+        source_made = p.source_made;
+        dest_made = p.dest_made;
+        source_counts = p.source_counts;
+        dest_counts = p.dest_counts;
+        source_shape = p.source_shape;
+        dest_shape = p.dest_shape;
+        no_late_page = p.no_late_page;
+        next_page_within = p.next_page_within;
+        few_rounds = p.few_rounds;
+        not_begun = λ h.
+            let none : c.region ≡ 0 = (p.not_begun (not_begun-before s (Advance d) (sym (ap has_begin same) ∙ h)) d).1 in
+            let one = a.one_region in
+            absurd (omega arith);
+        history_room = p.history_room;
+        source_plan = p.source_plan;
+        dest_plan = p.dest_plan;
+        source_calls = (omega (arith, p.source_calls), omega (arith, p.source_calls));
+        dest_calls = (omega (arith, p.dest_calls), omega (arith, p.dest_calls));
+      })
 
-pub advance-holds : (s : State) (j : List Entry) (unit : UnitId) (version at cursor : ℕ) (block : List ℕ) (blocks : List (List ℕ)) (outbox : List Message) (issued : List ℕ) →
-    IsState s → wait s.job (run s.job s.journal) (Advance 0) false ≡ None → j ≡ next s (Advance 0) → unit.0 ≡ block-unit s → s.blocks ≡ blocks ++ block ∷ [] → at ≡ length s.history →
-    version ≡ slice_index s.issued unit.0 + 1 → issued ≡ slice_set s.issued unit.0 version → outbox ≡ s.outbox ++ record { head = record { unit = unit; version = version; at = at }; content = block } ∷ [] → cursor ≡ s.cursor + 1 →
-    IsState (record s { journal = j; cursor = cursor; region = 0; blocks = blocks; outbox = outbox; issued = issued })
-advance-holds s j unit version at cursor block blocks outbox issued is goes same is_unit last is_at is_version is_issued is_outbox is_cursor =
-    let none : blocks ≡ [] = last-left blocks block (sym (ap length last) ∙ one-read s is goes) in
-    let read : s.blocks ≡ block ∷ [] = last ∙ ap (λ bs. bs ++ block ∷ []) none in
-    let this : unit ≡ record { 0 = block-unit s } = ap (λ (n : ℕ). record { 0 = n }) is_unit in
-    let number_of : version ≡ number s.issued (block-unit s) + 1 = is_version ∙ ap (λ u. number s.issued u + 1) is_unit in
-    let all_issued : issued ≡ set s.issued (block-unit s) (number s.issued (block-unit s) + 1) = is_issued ∙ ap (λ n. set s.issued unit.0 n) number_of ∙ ap (λ u. set s.issued u (number s.issued (block-unit s) + 1)) is_unit in
-    let sent : outbox ≡ s.outbox ++ next-message s (block-unit s) block ∷ [] =
-    is_outbox
-    ∙ ap (λ (u : UnitId). s.outbox ++ record { head = record { unit = u; version = version; at = at }; content = block } ∷ []) this
-    ∙ ap (λ n. s.outbox ++ record { head = record { unit = record { 0 = block-unit s }; version = n; at = at }; content = block } ∷ []) number_of
-    ∙ ap (λ n. s.outbox ++ record { head = record { unit = record { 0 = block-unit s }; version = number s.issued (block-unit s) + 1; at = n }; content = block } ∷ []) is_at in
-    let by = advance-by s j block is goes same read in
-    subst (λ c. IsState (record s { journal = j; cursor = c; region = 0; blocks = blocks; outbox = outbox; issued = issued })) (sym is_cursor)
-    (subst (λ bs. IsState (record s { journal = j; cursor = s.cursor + 1; region = 0; blocks = bs; outbox = outbox; issued = issued })) (sym none)
-    (subst (λ ms. IsState (record s { journal = j; cursor = s.cursor + 1; region = 0; blocks = []; outbox = ms; issued = issued })) (sym sent)
-    (subst (λ ns. IsState (record s { journal = j; cursor = s.cursor + 1; region = 0; blocks = []; outbox = s.outbox ++ next-message s (block-unit s) block ∷ []; issued = ns })) (sym all_issued) by)))
+  -- the block at the cursor has no message yet
+  pub unmade : (copy s d).cursor < blocks s.job.shape.disks d → number s.issued (block-unit s d) ≡ 0
+  unmade l =
+      let b = is_block s.job.shape d (copy s d).cursor lt l in
+      let disks : List Disk = map shown_disk s.disks in
+      let here : cursor_of s.job.shape disks (block-unit s d) ≡ (copy s d).cursor = ap (λ k. (get_or disks k no_disk).cursor) b.disk ∙ ap (λ (x : Disk). x.cursor) (disk-is s d) in
+      (shown-view s is).unsent.none (block-unit s d) (unsent_block_from s.job.shape disks (block-unit s d) (record { in_range = b.in_range; no_page = b.no_page; not_behind = omega (arith, here, b.block) }))
+
+  pub advance-unit : (copy s d).cursor < blocks s.job.shape.disks d → block-unit s d < unit_count (job_of s.job)
+  advance-unit l = (is_block s.job.shape d (copy s d).cursor lt l).in_range
+
+  pub advance-few : (copy s d).cursor < blocks s.job.shape.disks d → (copy s d).cursor + 1 < 2 ^ 32
+  advance-few l =
+      let b = is_block s.job.shape d (copy s d).cursor lt l in
+      let above = block_above s.job.shape (block-unit s d) b.no_page in
+      let few = (good_within s.job.shape is.good.machine).few_units in
+      let inside = b.in_range in
+      let at = b.block in
+      omega arith
+
+  pub advance-holds : (j : List Entry) (unit : UnitId) (version at : ℕ) (block : List ℕ) (disks : List DiskState) (outbox : List Message) (issued : List ℕ) →
+      wait (job_of s.job) (run (job_of s.job) s.journal) (Advance d) false ≡ None → j ≡ next s (Advance d) → unit.0 ≡ block-unit s d → (copy s d).blocks ≡ block ∷ [] → at ≡ length s.history →
+      version ≡ slice_index s.issued unit.0 + 1 → issued ≡ slice_set s.issued unit.0 version → outbox ≡ s.outbox ++ record { head = record { unit = unit; version = version; at = at }; content = block } ∷ [] →
+      disks ≡ set s.disks d (record { cursor = (copy s d).cursor + 1; region = 0; blocks = [] }) →
+      IsState (record s { journal = j; disks = disks; outbox = outbox; issued = issued })
+  advance-holds j unit version at block disks outbox issued goes same is_unit read is_at is_version is_issued is_outbox is_disks =
+      let this : unit ≡ record { 0 = block-unit s d } = ap (λ (n : ℕ). record { 0 = n }) is_unit in
+      let number_of : version ≡ number s.issued (block-unit s d) + 1 = is_version ∙ ap (λ u. number s.issued u + 1) is_unit in
+      let all_issued : issued ≡ set s.issued (block-unit s d) (number s.issued (block-unit s d) + 1) = is_issued ∙ ap (λ n. set s.issued unit.0 n) number_of ∙ ap (λ u. set s.issued u (number s.issued (block-unit s d) + 1)) is_unit in
+      let sent : outbox ≡ s.outbox ++ next-message s (block-unit s d) block ∷ [] =
+      is_outbox
+      ∙ ap (λ (u : UnitId). s.outbox ++ record { head = record { unit = u; version = version; at = at }; content = block } ∷ []) this
+      ∙ ap (λ n. s.outbox ++ record { head = record { unit = record { 0 = block-unit s d }; version = n; at = at }; content = block } ∷ []) number_of
+      ∙ ap (λ n. s.outbox ++ record { head = record { unit = record { 0 = block-unit s d }; version = number s.issued (block-unit s d) + 1; at = n }; content = block } ∷ []) is_at in
+      let by = advance-by j block goes same read in
+      subst (λ ds. IsState (record s { journal = j; disks = ds; outbox = outbox; issued = issued })) (sym is_disks)
+      (subst (λ ms. IsState (record s { journal = j; disks = set s.disks d (record { cursor = (copy s d).cursor + 1; region = 0; blocks = [] }); outbox = ms; issued = issued })) (sym sent)
+      (subst (λ ns. IsState (record s { journal = j; disks = set s.disks d (record { cursor = (copy s d).cursor + 1; region = 0; blocks = [] }); outbox = s.outbox ++ next-message s (block-unit s d) block ∷ []; issued = ns })) (sym all_issued) by))

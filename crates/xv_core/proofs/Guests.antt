@@ -1,32 +1,36 @@
--- A write of the guest, before the copy begins: what it leaves is a state.
-use Rattle.std.specs.Prelude.{◌≡◌, ◌≤◌, ◌<◌, ℕ, zero, suc, ◌+◌, ◌-◌, ◌||◌, ◌&&◌, ◌==◌, not, nat_lt, nat_le, is_some, is_none, unwrap_or, Bool, true, false, List, [], ◌∷◌, ◌++◌, length, map, set, get_or, Option, None, Some, if◌then◌else◌, sum_by, ◌^◌, IfSome, IsSome}
+-- An operation of the guest, before the copy begins: what it leaves is a state.
+use Rattle.std.specs.Prelude.{◌≡◌, ◌≤◌, ◌<◌, ℕ, zero, suc, ◌+◌, ◌-◌, ◌||◌, ◌&&◌, ◌==◌, not, nat_lt, nat_le, is_some, is_none, unwrap_or, Bool, true, false, List, [], ◌∷◌, ◌++◌, length, map, set, get_or, Option, None, Some, if◌then◌else◌, sum_by, ◌^◌, min, drop, IfSome, IsSome, IsNone}
 use Rattle.std.proofs.Common.{rules, arith, refl, ap, sym, subst, ◌∙◌, length-append}
-use Rattle.std.proofs.lemmas.List.{append-nil, length-set, get_or-set_same, get_or-set_other}
+use Rattle.std.proofs.lemmas.List.{append-nil, length-set, length-map, length-take, set-get_or, get_or-set_same, get_or-set_other}
 use Rattle.std.proofs.Math.ListN.{drop_of_length-le}
 use Rattle.std.proofs.lemmas.List.Sums.{sum_by-cons}
-use Rattle.std.proofs.lemmas.Bool.{leb-true, leb-false, eq-eqb, eqb-true, eqb-false, ne_eqb, le-ltb, le-leb, lt-leb}
+use Rattle.std.proofs.lemmas.Bool.{and_parts, leb-true, leb-false, eq-eqb, eqb-true, eqb-false, le-ltb, le-leb, lt-leb}
 use Rattle.xv_base.specs.Pattern.{repeated}
-use Rattle.xv_base.specs.declared.unit.DiskShape.{DiskShape}
-use Rattle.xv_model.specs.Job.{Job, Shape, UnitOp, units, trace, operation, operation_count, unit_count, size, blocks, disk_of, block_of}
-use Rattle.xv_model.specs.Guest.{Ended, ended, wrote, writes, overlaid, part}
-use Rattle.xv_model.specs.View.{Disk, no_disk, disk, number, is_running, is_stunned, is_switched, is_live, is_behind, is_inside, all_copied_by}
-use Rattle.xv_model.specs.Wait.{Event, Why, Aim, Alone, Store, Join, Mirror, is_join, is_mirror, next_aim, reaches, unless, wait}
-use Rattle.xv_model.specs.Effect.{answer, guest_by, guest_answer}
+use Rattle.xv_model.specs.Job.{Job, Shape, UnitOp, units, trace, operation, operation_count, unit_count, size, is_page, blocks, disk_of, block_of}
+use Rattle.xv_model.specs.Guest.{Ended, ended, wrote, writes, overlaid, part, read_bytes}
+use Rattle.xv_model.specs.View.{View, Disk, no_disk, number, is_running, is_stunned, is_switched, is_live, is_behind, is_inside, is_copied}
+use Rattle.xv_model.specs.Wait.{Event, Why, Aim, Alone, Store, Join, Mirror, is_join, is_mirror, next_operation, next_aim, reaches, unless, wait}
+use Rattle.xv_model.specs.Effect.{effect, answer, guest_by, guest_answer}
 use Rattle.xv_model.specs.Step.{Entry, run}
-use Rattle.xv_model.specs.Contents.{Contents, HoldsContents, moves, unit_content, after_operation}
+use Rattle.xv_model.specs.Contents.{Contents, HoldsContents, moves, unit_content, after_operation, read_of}
 use Rattle.xv_model.proofs.GoesOn.{aim_of, guest_goes}
-use Rattle.xv_model.proofs.Histories.{push, writes-push_at}
-use Rattle.xv_model.proofs.Layouts.{block_from}
+use Rattle.xv_model.proofs.Histories.{push, writes-push_at, read_bytes-push_at}
+use Rattle.xv_model.proofs.Layouts.{disk_in}
+use Rattle.xv_model.proofs.Contents.Entries.{read_of-write}
 use Rattle.xv_model.proofs.Contents.Sizes.{length-repeated, length-content}
-use Rattle.xv_job.specs.Built.{IsBlockWrite, written}
+use Rattle.xv_trace.specs.Operations.{all_unit_operations}
+use Rattle.xv_job.specs.Written.{job_of}
 use Rattle.xv_job.specs.BuiltEvents.{has_begin}
-use Rattle.xv_core.specs.Seen.{Seen, view_of}
-use Rattle.xv_core.specs.State.{State, IsState, shown, seen_of, held_contents}
-use Rattle.xv_device.specs.Device.{WriteUnit}
+use Rattle.xv_core.specs.Copies.{DiskState, shown_disk}
+use Rattle.xv_core.specs.Seen.{Seen, view_of, bytes_read}
+use Rattle.xv_core.specs.State.{State, IsState, copy, shown, seen_of, held_contents}
+use Rattle.xv_device.specs.Device.{Plan, WriteUnit, ReadRange}
 use Rattle.xv_device.specs.Memory.{Device, after}
-use Rattle.xv_core.proofs.Runs.{Next, next, next-done}
+use Rattle.xv_core.proofs.Runs.{Next, next, next-done, step-goes_on}
 use Rattle.xv_core.proofs.Plain.{plain, source_reach, state-next, length-next}
-use Rattle.xv_core.proofs.Copying.{shown-view, shown-goes, shown-wait, shown-effect, shown-moves, shown-answer}
+use Rattle.xv_core.proofs.Shown.{shown-view, shown-goes, shown-wait, shown-effect, shown-moves, shown-answer, disk-is, disks-length, nobody-waits}
+use Rattle.xv_core.proofs.CopiedAll.{copied-each}
+use Rattle.xv_core.proofs.OnDisks.{no-page-op}
 use Rattle.xv_base.specs.declared.operation.Outcome.TheVariants.{Done as Happened}
 use Rattle.xv_base.specs.declared.event.Event.TheVariants.{Guest}
 use Rattle.xv_base.specs.declared.answer.Turn.TheVariants.{Done}
@@ -37,25 +41,33 @@ abbrev pub act : Event
 act = Guest (record { 0 = 0 })
 
 abbrev pub next-op : State → UnitOp
-next-op s = operation s.job 0 (ended s.history 0)
+next-op s = operation (job_of s.job) 0 (ended s.history 0)
 
 abbrev pub entry-done : Ended
 entry-done = record { guest = record { 0 = 0 }; outcome = Happened }
 
--- before the copy begins, the disk is not copied, so the guest runs
-no-blocks : (b : ℕ) (rest : List ℕ) (n : ℕ) → 1 ≤ b → all_copied_by (b ∷ rest) (record { cursor = 0; region = 0; got = n; queue = [] } ∷ []) ≡ true → ⊥
-no-blocks b rest n some copied =
-    let off : (0 == b) ≡ false = ne_eqb 0 b (λ e. absurd (omega arith)) in
-    let none : false ≡ true = sym (ap (λ x. (x && (0 == 0)) && all_copied_by rest []) off) ∙ copied in
-    absurd (cc)
+-- what is known of its next operation
+pub record IsAct (s : State) : Type 0 where
+  pub in_range : (next-op s).unit.0 < unit_count (job_of s.job)
+  pub block : is_page s.job.shape (next-op s).unit.0 ≡ false
+  pub in_unit : (next-op s).offset + (next-op s).len ≤ size s.job.shape (next-op s).unit.0
+  pub whole : is_some (next-op s).write ≡ true → ((next-op s).offset ≡ 0) × ((next-op s).len ≡ size s.job.shape (next-op s).unit.0)
+  pub short : is_some (next-op s).write ≡ false → (next-op s).len ≤ 64
 
-not_copied-by : (shapes : List DiskShape) (n : ℕ) → 1 ≤ blocks shapes 0 → length shapes ≡ 1 → all_copied_by (map (λ s. s.blocks) shapes) (record { cursor = 0; region = 0; got = n; queue = [] } ∷ []) ≡ true → ⊥
-not_copied-by [] n some one copied = absurd (omega arith)
-not_copied-by (d ∷ shapes) n some one copied = no-blocks d.blocks (map (λ s. s.blocks) shapes) n some copied
+pub is-act : (s : State) → IsState s → ended s.history 0 < length (trace (job_of s.job) 0) → IsAct s
+is-act s is more =
+    let l = is.good.legal 0 (ended s.history 0) more in
+    let block = no-page-op s.job (ended s.history 0) is.built more in
+    record { in_range = l.unit_is; block = block; in_unit = l.in_unit; whole = λ on. l.whole_block on block; short = l.short_read }
+
+-- before the copy begins, no disk is copied, so the guest runs
+far-from : (n : ℕ) (c : DiskState) → 1 ≤ n → c.cursor ≡ 0 → is_copied n (shown_disk c) ≡ true → ⊥
+far-from n c some none copied =
+    let same = eqb-true c.cursor n (and_parts (c.cursor == n) (c.region == 0) copied).0 in
+    absurd (omega arith)
 
 pub record Early (s : State) : Type 0 where
-  pub cursor : s.cursor ≡ 0
-  pub region : s.region ≡ 0
+  pub untouched : (d : ℕ) → ((copy s d).cursor ≡ 0) × ((copy s d).region ≡ 0)
   pub not_stunned : is_stunned s.phase ≡ false
   pub not_switched : is_switched s.phase ≡ false
 
@@ -64,19 +76,17 @@ either-off false false h = (refl, refl)
 either-off false true h = absurd (h refl)
 either-off true b h = absurd (h refl)
 
-pub early : (s : State) → IsState s → has_begin s.journal ≡ false → Early s
-early s is h =
+pub early : (s : State) → IsState s → has_begin s.journal ≡ false → ended s.history 0 < length (trace (job_of s.job) 0) → Early s
+early s is h more =
     let at = is.not_begun h in
-    let one = is.built.one_disk in
+    let a = is-act s is more in
+    let d = disk_of s.job.shape (next-op s).unit.0 in
+    let lt = disk_in s.job.shape (next-op s).unit.0 a.block a.in_range in
+    let some = is.good.some_blocks d lt in
     let quiet = (shown-view s is).quiet in
-    let some = is.good.some_blocks 0 (omega arith) in
-    let copied = λ (on : (is_stunned s.phase || is_switched s.phase) ≡ true).
-    let all : all_copied_by (map (λ d. d.blocks) s.job.shape.disks) (record { cursor = s.cursor; region = s.region; got = length s.blocks; queue = [] } ∷ []) ≡ true = quiet.all_copied on in
-    not_copied-by s.job.shape.disks (length s.blocks) some one
-    (subst (λ r. all_copied_by (map (λ d. d.blocks) s.job.shape.disks) (record { cursor = 0; region = r; got = length s.blocks; queue = [] } ∷ []) ≡ true) at.1
-    (subst (λ c. all_copied_by (map (λ d. d.blocks) s.job.shape.disks) (record { cursor = c; region = s.region; got = length s.blocks; queue = [] } ∷ []) ≡ true) at.0 all)) in
-    let off = either-off (is_stunned s.phase) (is_switched s.phase) copied in
-    record { cursor = at.0; region = at.1; not_stunned = off.0; not_switched = off.1 }
+    let off = either-off (is_stunned s.phase) (is_switched s.phase)
+    (λ on. far-from (blocks s.job.shape.disks d) (copy s d) some (at d).0 (copied-each s.job.shape.disks s.disks d lt (disks-length s is) (quiet.all_copied on))) in
+    record { untouched = at; not_stunned = off.0; not_switched = off.1 }
 
 -- a write to a block ahead asks nothing of the migration
 ahead-inside : (a b : Bool) → b ≡ false → (a && b) ≡ false
@@ -93,21 +103,14 @@ alone false true b i e f g = absurd (cc)
 alone false false true i e f g = absurd (cc)
 alone false false false true e f g = absurd (cc)
 
-one-disk : (d : Disk) (k : ℕ) → d.cursor ≡ 0 → d.region ≡ 0 → ((get_or (d ∷ []) k no_disk).cursor ≡ 0) × ((get_or (d ∷ []) k no_disk).region ≡ 0)
-one-disk d zero c r = (c, r)
-one-disk d (suc k) c r = (refl, refl)
-
-pub is-write : (s : State) → IsState s → ended s.history 0 < length (trace s.job 0) → IsBlockWrite s.job.shape (next-op s)
-is-write s is more = is.built.block_writes 0 (ended s.history 0) more
-
-pub is-alone : (s : State) → IsState s → has_begin s.journal ≡ false → ended s.history 0 < length (trace s.job 0) → next_aim s.job (shown s (run s.job s.journal)) 0 ≡ Alone
+pub is-alone : (s : State) → IsState s → has_begin s.journal ≡ false → ended s.history 0 < length (trace (job_of s.job) 0) → next_aim (job_of s.job) (shown s (run (job_of s.job) s.journal)) 0 ≡ Alone
 is-alone s is h more =
-    let e = early s is h in
-    let w = is-write s is more in
-    let v = shown s (run s.job s.journal) in
-    let at = one-disk (record { cursor = s.cursor; region = s.region; got = length s.blocks; queue = [] }) (disk_of s.job.shape (next-op s).unit.0) e.cursor e.region in
-    let far = ahead (disk v (disk_of s.job.shape (next-op s).unit.0)) (block_of s.job.shape (next-op s).unit.0) at.0 at.1 in
-    alone (not (is_running s.phase && is_some (next-op s).write)) _ _ _ (block_from s.job.shape (next-op s).unit.0 w.block) far.0 far.1
+    let e = early s is h more in
+    let a = is-act s is more in
+    let d = disk_of s.job.shape (next-op s).unit.0 in
+    let k = get_or (map shown_disk s.disks) d no_disk in
+    let far = ahead k (block_of s.job.shape (next-op s).unit.0) (ap (λ (x : Disk). x.cursor) (disk-is s d) ∙ (e.untouched d).0) (ap (λ (x : Disk). x.region) (disk-is s d) ∙ (e.untouched d).1) in
+    alone (not (is_running s.phase && is_some (next-op s).write)) _ _ _ a.block far.0 far.1
 
 -- so it waits for the end of its trace alone
 not-due : (cancel : Option ℕ) (n : ℕ) (live : Bool) → cancel ≡ None → (reaches cancel n && live) ≡ false
@@ -129,46 +132,55 @@ unless-on : (b : Bool) (why : Why) (later : Option Why) → b ≡ true → unles
 unless-on true why later e = refl
 unless-on false why later e = absurd (cc)
 
-pub guest-ends : (s : State) → IsState s → length (trace s.job 0) ≤ ended s.history 0 → wait s.job (run s.job s.journal) act false ≡ Some TraceEnd
-guest-ends s is end = shown-wait s act (Some TraceEnd) is (unless-on _ _ _ (le-leb (length (trace s.job 0)) (ended s.history 0) end))
+pub guest-ends : (s : State) → IsState s → length (trace (job_of s.job) 0) ≤ ended s.history 0 → wait (job_of s.job) (run (job_of s.job) s.journal) act false ≡ Some TraceEnd
+guest-ends s is end = shown-wait s act (Some TraceEnd) is (unless-on _ _ _ (le-leb (length (trace (job_of s.job) 0)) (ended s.history 0) end))
 
-pub guest-free : (s : State) → IsState s → has_begin s.journal ≡ false → ended s.history 0 < length (trace s.job 0) → wait s.job (run s.job s.journal) act false ≡ None
+pub guest-free : (s : State) → IsState s → has_begin s.journal ≡ false → ended s.history 0 < length (trace (job_of s.job) 0) → wait (job_of s.job) (run (job_of s.job) s.journal) act false ≡ None
 guest-free s is h more =
-    let e = early s is h in
-    shown-wait s act None is (waits-by _ _ _ _ _ _ (lt-leb (length (trace s.job 0)) (ended s.history 0) more) refl (not-due s.job.config.cancel (length s.history) (is_live s.phase) is.built.no_cancel) e.not_stunned (is-alone s is h more))
+    let e = early s is h more in
+    shown-wait s act None is (waits-by _ _ _ _ _ _ (lt-leb (length (trace (job_of s.job) 0)) (ended s.history 0) more) (nobody-waits s.disks 0) (not-due s.job.config.cancel (length s.history) (is_live s.phase) is.built.no_cancel) e.not_stunned (is-alone s is h more))
 
-guest-waits : (s : State) → IsState s → has_begin s.journal ≡ false → (b : Bool) → nat_le (length (trace s.job 0)) (ended s.history 0) ≡ b → wait s.job (run s.job s.journal) act false ≡ unless b TraceEnd None
-guest-waits s is h true le = guest-ends s is (leb-true (length (trace s.job 0)) (ended s.history 0) le)
-guest-waits s is h false le = guest-free s is h (leb-false (length (trace s.job 0)) (ended s.history 0) le)
+guest-waits : (s : State) → IsState s → has_begin s.journal ≡ false → (b : Bool) → nat_le (length (trace (job_of s.job) 0)) (ended s.history 0) ≡ b → wait (job_of s.job) (run (job_of s.job) s.journal) act false ≡ unless b TraceEnd None
+guest-waits s is h true le = guest-ends s is (leb-true (length (trace (job_of s.job) 0)) (ended s.history 0) le)
+guest-waits s is h false le = guest-free s is h (leb-false (length (trace (job_of s.job) 0)) (ended s.history 0) le)
 
-pub guest-wait : (s : State) (old : Seen) (n count : ℕ) → IsState s → seen_of s ≡ old → has_begin old.journal ≡ false → n ≡ ended s.history 0 → count ≡ length (trace s.job 0) →
-    wait old.job (view_of old) act false ≡ unless (nat_le count n) TraceEnd None
+sum-of-one : (traces : List (List UnitOp)) → length traces ≡ 1 → sum_by (λ ops. length ops) traces ≡ length (get_or traces 0 [])
+sum-of-one [] one = absurd (omega arith)
+sum-of-one (t ∷ []) one = omega arith
+sum-of-one (t ∷ u ∷ ts) one = absurd (omega arith)
+
+one-guest : (s : State) → IsState s → length (job_of s.job).traces ≡ 1
+one-guest s is = length-map s.job.traces (all_unit_operations s.job.shape) ∙ is.built.one_guest
+
+all-of-one : (s : State) → IsState s → operation_count (job_of s.job) ≡ length (trace (job_of s.job) 0)
+all-of-one s is = sum-of-one (job_of s.job).traces (one-guest s is)
+
+pub guest-wait : (s : State) (old : Seen) (n count : ℕ) → IsState s → seen_of s ≡ old → has_begin old.journal ≡ false → n ≡ ended s.history 0 → count ≡ operation_count (job_of s.job) →
+    wait (job_of old.job) (view_of old) act false ≡ unless (nat_le count n) TraceEnd None
 guest-wait s old n count is same h is_n is_count =
     let early_on : has_begin s.journal ≡ false = ap (λ (m : Seen). has_begin m.journal) same ∙ h in
-    subst (λ (m : Seen). wait m.job (view_of m) act false ≡ unless (nat_le count n) TraceEnd None) same
-    (guest-waits s is early_on (nat_le (length (trace s.job 0)) (ended s.history 0)) refl
-    ∙ ap (λ k. unless (nat_le k (ended s.history 0)) TraceEnd None) (sym is_count) ∙ ap (λ k. unless (nat_le count k) TraceEnd None) (sym is_n))
+    subst (λ (m : Seen). wait (job_of m.job) (view_of m) act false ≡ unless (nat_le count n) TraceEnd None) same
+    (guest-waits s is early_on (nat_le (length (trace (job_of s.job) 0)) (ended s.history 0)) refl
+    ∙ ap (λ k. unless (nat_le k (ended s.history 0)) TraceEnd None) (sym (is_count ∙ all-of-one s is)) ∙ ap (λ k. unless (nat_le count k) TraceEnd None) (sym is_n))
 
-pub guest-more : (s : State) → IsState s → wait s.job (run s.job s.journal) act false ≡ None → ended s.history 0 < length (trace s.job 0)
-guest-more s is goes = (guest_goes s.job (shown s (run s.job s.journal)) 0 false (shown-goes s act is goes)).more
+pub guest-more : (s : State) → IsState s → wait (job_of s.job) (run (job_of s.job) s.journal) act false ≡ None → ended s.history 0 < length (trace (job_of s.job) 0)
+guest-more s is goes = (guest_goes (job_of s.job) (shown s (run (job_of s.job) s.journal)) 0 false (shown-goes s act is goes)).more
 
 -- what it answers
-writes-some : (w : Option (List ℕ)) (bytes : List ℕ) → w ≡ Some bytes → is_some w ≡ true
-writes-some None bytes e = absurd (cc)
-writes-some (Some x) bytes e = refl
+pub guest-answer : (s : State) → IsState s → has_begin s.journal ≡ false → wait (job_of s.job) (run (job_of s.job) s.journal) act false ≡ None →
+    answer (job_of s.job) (run (job_of s.job) s.journal) act ≡ Done (record { a = if is_some (next-op s).write then 0 else (next-op s).len; b = 0 })
+guest-answer s is h goes = shown-answer s act _ is (ap (λ (a : Aim). guest_answer (next-op s) a) (is-alone s is h (guest-more s is goes)))
 
-pub guest-answer : (s : State) → IsState s → has_begin s.journal ≡ false → wait s.job (run s.job s.journal) act false ≡ None → answer s.job (run s.job s.journal) act ≡ Done (record { a = 0; b = 0 })
-guest-answer s is h goes =
-    let more = guest-more s is goes in
-    let w = is-write s is more in
-    shown-answer s act _ is
-    (ap (λ (a : Aim). guest_answer (next-op s) a) (is-alone s is h more)
-    ∙ ap (λ b. Done (record { a = if b then 0 else (next-op s).len; b = 0 })) (writes-some (next-op s).write (written (next-op s)) w.writes))
+pub write-answer : (s : State) → IsState s → has_begin s.journal ≡ false → wait (job_of s.job) (run (job_of s.job) s.journal) act false ≡ None → is_some (next-op s).write ≡ true →
+    answer (job_of s.job) (run (job_of s.job) s.journal) act ≡ Done (record { a = 0; b = 0 })
+write-answer s is h goes writes = guest-answer s is h goes ∙ ap (λ b. Done (record { a = if b then 0 else (next-op s).len; b = 0 })) writes
 
-pub guest-next : (s : State) → IsState s → has_begin s.journal ≡ false → wait s.job (run s.job s.journal) act false ≡ None → Next s act
-guest-next s is h goes =
-    let one = is.built.one_guest in
-    next-done s act _ is (ap (nat_lt 0) one) goes (guest-answer s is h goes)
+pub read-answer : (s : State) → IsState s → has_begin s.journal ≡ false → wait (job_of s.job) (run (job_of s.job) s.journal) act false ≡ None → is_some (next-op s).write ≡ false →
+    answer (job_of s.job) (run (job_of s.job) s.journal) act ≡ Done (record { a = (next-op s).len; b = 0 })
+read-answer s is h goes reads = guest-answer s is h goes ∙ ap (λ b. Done (record { a = if b then 0 else (next-op s).len; b = 0 })) reads
+
+pub guest-next : (s : State) → IsState s → has_begin s.journal ≡ false → wait (job_of s.job) (run (job_of s.job) s.journal) act false ≡ None → Next s act
+guest-next s is h goes = next-done s act _ is (ap (nat_lt 0) (one-guest s is)) goes (guest-answer s is h goes)
 
 -- all entries are the one guest's, and there is room for one more
 ended-cons : (e : Ended) (h : List Ended) (g : ℕ) → ended (e ∷ h) g ≡ (if e.guest.0 == g then 1 else 0) + ended h g
@@ -196,19 +208,14 @@ no-trace (t ∷ []) zero one above = absurd (omega arith)
 no-trace (t ∷ []) (suc g) one above = refl
 no-trace (t ∷ u ∷ ts) g one above = absurd (omega arith)
 
-sum-of-one : (traces : List (List UnitOp)) → length traces ≡ 1 → sum_by (λ ops. length ops) traces ≡ length (get_or traces 0 [])
-sum-of-one [] one = absurd (omega arith)
-sum-of-one (t ∷ []) one = omega arith
-sum-of-one (t ∷ u ∷ ts) one = absurd (omega arith)
-
-pub guest-room : (s : State) → IsState s → ended s.history 0 < length (trace s.job 0) → length s.history < operation_count s.job
+pub guest-room : (s : State) → IsState s → ended s.history 0 < length (trace (job_of s.job) 0) → length s.history < operation_count (job_of s.job)
 guest-room s is more =
     let legal = (shown-view s is).history.legal in
     let all = only-guest s.history (λ g above.
-    let few : ended s.history g ≤ length (trace s.job g) = legal g in
-    let none : length (trace s.job g) ≡ 0 = no-trace s.job.traces g is.built.one_guest above in
+    let few : ended s.history g ≤ length (trace (job_of s.job) g) = legal g in
+    let none : length (trace (job_of s.job) g) ≡ 0 = no-trace (job_of s.job).traces g (one-guest s is) above in
     omega arith) in
-    let count : operation_count s.job ≡ length (trace s.job 0) = sum-of-one s.job.traces is.built.one_guest in
+    let count = all-of-one s is in
     omega arith
 
 -- no more writes than entries
@@ -229,23 +236,10 @@ after-written (Some x) pattern zero n old e z l =
 after-written (Some x) pattern (suc offset) n old e z l = absurd (omega arith)
 
 -- the content of a unit on the source, while the guest runs there
-pub source-full : (s : State) → IsState s → is_switched s.phase ≡ false → (unit : ℕ) → unit < unit_count s.job → length (unit_content s.source.contents unit) ≡ size s.job.shape unit
+pub source-full : (s : State) → IsState s → is_switched s.phase ≡ false → (unit : ℕ) → unit < unit_count (job_of s.job) → length (unit_content s.source.contents unit) ≡ size s.job.shape unit
 source-full s is off unit lt =
-    let holds : HoldsContents s.job (shown s (run s.job s.journal)) (held_contents s) = subst (λ v. HoldsContents s.job v (held_contents s)) (sym is.shows) is.contents in
-    ap length (holds.source_is unit lt off) ∙ length-content s.job s.history unit (length s.history) is.good (shown-view s is).history.legal (omega arith)
-
-abbrev pub act-bytes : State → List ℕ
-act-bytes s = repeated (written (next-op s)) (next-op s).len
-
-abbrev pub source-acted : State → Device
-source-acted s = after (WriteUnit (next-op s).unit.0 (act-bytes s)) false s.source
-
-guest-overlaid : (s : State) → IsState s → has_begin s.journal ≡ false → wait s.job (run s.job s.journal) act false ≡ None →
-    act-bytes s ≡ overlaid (next-op s).write (next-op s).offset (next-op s).len (unit_content s.source.contents (next-op s).unit.0)
-guest-overlaid s is h goes =
-    let w = is-write s is (guest-more s is goes) in
-    let e = early s is h in
-    sym (after-written (next-op s).write (written (next-op s)) (next-op s).offset (next-op s).len _ w.writes w.from_start (source-full s is e.not_switched (next-op s).unit.0 w.in_range ∙ sym w.to_end))
+    let holds : HoldsContents (job_of s.job) (shown s (run (job_of s.job) s.journal)) (held_contents s) = subst (λ v. HoldsContents (job_of s.job) v (held_contents s)) (sym is.shows) is.contents in
+    ap length (holds.source_is unit lt off) ∙ length-content (job_of s.job) s.history unit (length s.history) is.good (shown-view s is).history.legal (omega arith)
 
 -- the source has made as many writes as the guest
 counted-at : (writes : List ℕ) (unit u k : ℕ) → unit < length writes → number writes u ≡ k → (b : Bool) → (unit == u) ≡ b →
@@ -258,126 +252,256 @@ counted-at writes unit u k lt e false at =
     let apart = eqb-false unit u at in
     get_or-set_other writes unit u (number writes unit + 1) 0 (λ same. apart (sym same)) ∙ omega arith
 
--- what a write leaves of the contents, by what it asks, whether the guest is at the destination, and whether it reads
-abbrev acted : State → Aim → Bool → Bool → Contents
-acted s a switched reading = record (held_contents s) {
+-- what the operation leaves of the contents, by what it asks and whether the guest is at the destination
+abbrev acted : State → Aim → Bool → Contents
+acted s a switched = record (held_contents s) {
   source = if switched || is_join a then s.source.contents else after_operation (next-op s) s.source.contents;
   dest = if switched then after_operation (next-op s) s.dest.contents else s.dest.contents;
   outbox = if is_mirror a then (held_contents s).outbox ++ unit_content (after_operation (next-op s) s.source.contents) (next-op s).unit.0 ∷ [] else (held_contents s).outbox;
-  reads = if reading then part (next-op s) (unit_content (if switched then s.dest.contents else s.source.contents) (next-op s).unit.0) else [];
+  reads = s.reads ++ read_of (next-op s) (if switched then s.dest.contents else s.source.contents);
 }
 
-reads-not : (w : Option (List ℕ)) (bytes : List ℕ) → w ≡ Some bytes → is_none w ≡ false
-reads-not None bytes e = absurd (cc)
-reads-not (Some x) bytes e = refl
+-- what the operation leaves of the source
+pub record Acted (s : State) (source : Device) : Type 0 where
+  pub contents : source.contents ≡ after_operation (next-op s) s.source.contents
+  pub writes : (u : ℕ) → u < unit_count (job_of s.job) → number source.writes u ≡ (if is_some (next-op s).write && ((next-op s).unit.0 == u) then 1 else 0) + number s.source.writes u
+  pub counts : length source.writes ≡ length s.source.writes
+  pub shape : source.shape ≡ s.source.shape
+  pub plan : source.plan ≡ s.source.plan
+  pub reads : source.calls.reads ≤ s.source.calls.reads + 1
+  pub write_calls : source.calls.writes ≤ s.source.calls.writes + 1
 
-guest-moved : (s : State) → IsState s → has_begin s.journal ≡ false → wait s.job (run s.job s.journal) act false ≡ None →
-    record (held_contents s) { source = set s.source.contents (next-op s).unit.0 (act-bytes s) } ≡ moves s.job (shown s (run s.job s.journal)) act (held_contents s)
-guest-moved s is h goes =
-    let e = early s is h in
-    let w = is-write s is (guest-more s is goes) in
-    ap (λ bytes. record (held_contents s) { source = set s.source.contents (next-op s).unit.0 bytes }) (guest-overlaid s is h goes)
-    ∙ ap (acted s Alone false) (sym (reads-not (next-op s).write (written (next-op s)) w.writes))
-    ∙ ap (λ b. acted s Alone b (is_none (next-op s).write)) (sym e.not_switched)
-    ∙ ap (λ a. acted s a (is_switched s.phase) (is_none (next-op s).write)) (sym (is-alone s is h (guest-more s is goes)))
+guest-moved : (s : State) (source : Device) → IsState s → has_begin s.journal ≡ false → wait (job_of s.job) (run (job_of s.job) s.journal) act false ≡ None → Acted s source →
+    record (held_contents s) { source = source.contents; reads = s.reads ++ read_of (next-op s) s.source.contents } ≡ moves (job_of s.job) (shown s (run (job_of s.job) s.journal)) act (held_contents s)
+guest-moved s source is h goes acts =
+    let more = guest-more s is goes in
+    let e = early s is h more in
+    ap (λ c. record (held_contents s) { source = c; reads = s.reads ++ read_of (next-op s) s.source.contents }) acts.contents
+    ∙ ap (acted s Alone) (sym e.not_switched)
+    ∙ ap (λ a. acted s a (is_switched s.phase)) (sym (is-alone s is h more))
 
 -- the writes made, where the guest runs at the source
-guest-made : (s : State) → IsState s → has_begin s.journal ≡ false → wait s.job (run s.job s.journal) act false ≡ None → (u : ℕ) → u < unit_count s.job →
-    number (set s.source.writes (next-op s).unit.0 (number s.source.writes (next-op s).unit.0 + 1)) u ≡ writes s.job (push s.history entry-done) u (length (push s.history entry-done))
-guest-made s is h goes u lt =
-    let e = early s is h in
-    let w = is-write s is (guest-more s is goes) in
+guest-made : (s : State) (source : Device) → IsState s → has_begin s.journal ≡ false → wait (job_of s.job) (run (job_of s.job) s.journal) act false ≡ None → Acted s source → (u : ℕ) → u < unit_count (job_of s.job) →
+    number source.writes u ≡ writes (job_of s.job) (push s.history entry-done) u (length (push s.history entry-done))
+guest-made s source is h goes acts u lt =
+    let e = early s is h (guest-more s is goes) in
     let p = plain s is in
-    let made : number s.source.writes u ≡ writes s.job s.history u (length s.history) = p.source_made u lt ∙ ap (λ b. writes s.job s.history u (if b then unwrap_or s.stun 0 else length s.history)) e.not_switched in
-    let there : (next-op s).unit.0 < length s.source.writes = subst (λ n. (next-op s).unit.0 < n) (sym is.source_counts) w.in_range in
-    counted-at s.source.writes (next-op s).unit.0 u (writes s.job s.history u (length s.history)) there made ((next-op s).unit.0 == u) refl
-    ∙ ap (λ b. (if b && ((next-op s).unit.0 == u) then 1 else 0) + writes s.job s.history u (length s.history)) (sym (writes-some (next-op s).write (written (next-op s)) w.writes))
-    ∙ sym (writes-push_at s.job s.history entry-done u)
-    ∙ ap (writes s.job (push s.history entry-done) u) (sym (length-append s.history (entry-done ∷ [])))
+    let made : number s.source.writes u ≡ writes (job_of s.job) s.history u (length s.history) = p.source_made u lt ∙ ap (λ b. writes (job_of s.job) s.history u (if b then unwrap_or s.stun 0 else length s.history)) e.not_switched in
+    acts.writes u lt
+    ∙ ap (λ n. (if is_some (next-op s).write && ((next-op s).unit.0 == u) then 1 else 0) + n) made
+    ∙ sym (writes-push_at (job_of s.job) s.history entry-done u)
+    ∙ ap (writes (job_of s.job) (push s.history entry-done) u) (sym (length-append s.history (entry-done ∷ [])))
 
 same-gap : (k m n : ℕ) → k + (m - m) ≡ k + (n - n)
 same-gap k m n = omega arith
 
-guest-by : (s : State) (j : List Entry) → IsState s → has_begin s.journal ≡ false → wait s.job (run s.job s.journal) act false ≡ None → j ≡ next s act →
-    IsState (record s { journal = j; source = source-acted s; history = push s.history entry-done })
-guest-by s j is h goes same =
-    let v = run s.job s.journal in
-    let new : State = record s { journal = j; source = source-acted s; history = push s.history entry-done } in
+guest-by : (s : State) (j : List Entry) (source : Device) → IsState s → has_begin s.journal ≡ false → wait (job_of s.job) (run (job_of s.job) s.journal) act false ≡ None → j ≡ next s act → Acted s source →
+    IsState (record s { journal = j; source = source; history = push s.history entry-done; reads = s.reads ++ read_of (next-op s) s.source.contents })
+guest-by s j source is h goes same acts =
+    let v = run (job_of s.job) s.journal in
+    let new : State = record s { journal = j; source = source; history = push s.history entry-done; reads = s.reads ++ read_of (next-op s) s.source.contents } in
     let longer : length j ≡ length s.journal + 1 = ap length same ∙ length-next s act in
-    let e = early s is h in
     let more = guest-more s is goes in
+    let e = early s is h more in
     let p = plain s is in
     let reach : source_reach new ≡ length new.history = ap (λ b. if b then unwrap_or s.stun 0 else length new.history) e.not_switched in
     let reached : source_reach s ≡ length s.history = ap (λ b. if b then unwrap_or s.stun 0 else length s.history) e.not_switched in
     state-next s new act (guest-next s is h goes) refl same
-    (shown-effect s new act is (subst (λ w. shown new w ≡ w) (ap (λ (a : Aim). guest_by s.job (shown s v) 0 (next-op s) a) (sym (is-alone s is h more))) refl))
-    (shown-moves s new act is (guest-moved s is h goes))
+    (shown-effect s new act is (subst (λ w. shown new w ≡ w) (ap (λ (a : Aim). guest_by (job_of s.job) (shown s v) 0 (next-op s) a) (sym (is-alone s is h more))) refl))
+    (shown-moves s new act is (guest-moved s source is h goes acts))
     (record {
       good = p.good;
       built = p.built;
       unwritten = p.unwritten;
-      source_made = λ u lt. guest-made s is h goes u lt ∙ ap (writes s.job new.history u) (sym reach);
+      source_made = λ u lt. guest-made s source is h goes acts u lt ∙ ap (writes (job_of s.job) new.history u) (sym reach);
       dest_made = λ u lt. p.dest_made u lt
-          ∙ ap (λ n. number s.applied u + (writes s.job s.history u (length s.history) - writes s.job s.history u n)) reached
-          ∙ same-gap (number s.applied u) (writes s.job s.history u (length s.history)) (writes s.job new.history u (length new.history))
-          ∙ ap (λ n. number s.applied u + (writes s.job new.history u (length new.history) - writes s.job new.history u n)) (sym reach);
-      source_counts = length-set s.source.writes (next-op s).unit.0 (number s.source.writes (next-op s).unit.0 + 1) ∙ p.source_counts;
+          ∙ ap (λ n. number s.applied u + (writes (job_of s.job) s.history u (length s.history) - writes (job_of s.job) s.history u n)) reached
+          ∙ same-gap (number s.applied u) (writes (job_of s.job) s.history u (length s.history)) (writes (job_of s.job) new.history u (length new.history))
+          ∙ ap (λ n. number s.applied u + (writes (job_of s.job) new.history u (length new.history) - writes (job_of s.job) new.history u n)) (sym reach);
+      source_counts = acts.counts ∙ p.source_counts;
       dest_counts = p.dest_counts;
-      source_shape = p.source_shape;
+      source_shape = acts.shape ∙ p.source_shape;
       dest_shape = p.dest_shape;
       no_late_page = p.no_late_page;
       next_page_within = p.next_page_within;
       few_rounds = p.few_rounds;
       not_begun = λ none. p.not_begun h;
       history_room = let room = guest-room s is more in let l = length-append s.history (entry-done ∷ []) in omega arith;
-      source_plan = p.source_plan;
+      source_plan = subst (λ (x : Plan). (x.reads ≡ []) × (x.writes ≡ []) × (x.flushes ≡ [])) (sym acts.plan) p.source_plan;
       dest_plan = p.dest_plan;
-      source_calls = (omega (arith, p.source_calls), omega (arith, p.source_calls));
+      source_calls = (let a = acts.reads in omega (arith, p.source_calls), let a = acts.write_calls in omega (arith, p.source_calls));
       dest_calls = (omega (arith, p.dest_calls), omega (arith, p.dest_calls));
     })
 
-pub guest-holds : (s : State) (j : List Entry) (op : UnitOp) (bytes : List ℕ) (source : Device) (history : List Ended) → IsState s → has_begin s.journal ≡ false → wait s.job (run s.job s.journal) act false ≡ None → j ≡ next s act →
-    op ≡ next-op s → bytes ≡ act-bytes s → source ≡ after (WriteUnit op.unit.0 bytes) false s.source → history ≡ push s.history entry-done → IsState (record s { journal = j; source = source; history = history })
-guest-holds s j op bytes source history is h goes same is_op is_bytes wrote_it longer =
-    let acts : source ≡ source-acted s = wrote_it ∙ ap (λ (o : UnitOp). after (WriteUnit o.unit.0 bytes) false s.source) is_op ∙ ap (λ bs. after (WriteUnit (next-op s).unit.0 bs) false s.source) is_bytes in
-    subst (λ d. IsState (record s { journal = j; source = d; history = history })) (sym acts)
-    (subst (λ es. IsState (record s { journal = j; source = source-acted s; history = es })) (sym longer) (guest-by s j is h goes same))
+-- the bytes that it reads are those of the source
+guest-bytes-at : (s : State) → IsState s → has_begin s.journal ≡ false → wait (job_of s.job) (run (job_of s.job) s.journal) act false ≡ None →
+    read_bytes (job_of s.job) (effect (job_of s.job) (shown s (run (job_of s.job) s.journal)) act).history (length s.history) ≡ read_of (next-op s) s.source.contents
+guest-bytes-at s is h goes =
+    let v = run (job_of s.job) s.journal in
+    let more = guest-more s is goes in
+    let e = early s is h more in
+    let a = is-act s is more in
+    let holds : HoldsContents (job_of s.job) (shown s v) (held_contents s) = subst (λ x. HoldsContents (job_of s.job) x (held_contents s)) (sym is.shows) is.contents in
+    ap (λ (x : Aim). read_bytes (job_of s.job) (guest_by (job_of s.job) (shown s v) 0 (next-op s) x).history (length s.history)) (is-alone s is h more)
+    ∙ read_bytes-push_at (job_of s.job) s.history entry-done
+    ∙ ap (λ x. if is_none (next-op s).write then part (next-op s) x else []) (sym (holds.source_is (next-op s).unit.0 a.in_range e.not_switched))
 
--- what the write of the guest asks for
+pub guest-bytes : (s : State) → IsState s → has_begin s.journal ≡ false → wait (job_of s.job) (run (job_of s.job) s.journal) act false ≡ None →
+    bytes_read (job_of s.job) (run (job_of s.job) s.journal) act ≡ read_of (next-op s) s.source.contents
+guest-bytes s is h goes =
+    let v = run (job_of s.job) s.journal in
+    ap (λ (w : View). read_bytes (job_of s.job) w.history (length v.history)) (step-goes_on (job_of s.job) v act goes)
+    ∙ subst (λ (x : View). read_bytes (job_of s.job) (effect (job_of s.job) x act).history (length x.history) ≡ read_of (next-op s) s.source.contents) is.shows (guest-bytes-at s is h goes)
+
+-- a write
+abbrev pub act-bytes : State → List ℕ → List ℕ
+act-bytes s pattern = repeated pattern (next-op s).len
+
+some-is : (w : Option (List ℕ)) (pattern : List ℕ) → w ≡ Some pattern → is_some w ≡ true
+some-is w pattern e = ap is_some e
+
+none-is : (w : Option (List ℕ)) → w ≡ None → is_some w ≡ false
+none-is w e = ap is_some e
+
+pub write-acts : (s : State) (pattern : List ℕ) → IsState s → has_begin s.journal ≡ false → wait (job_of s.job) (run (job_of s.job) s.journal) act false ≡ None → (next-op s).write ≡ Some pattern →
+    Acted s (after (WriteUnit (next-op s).unit.0 (act-bytes s pattern)) false s.source)
+write-acts s pattern is h goes writes =
+    let more = guest-more s is goes in
+    let e = early s is h more in
+    let a = is-act s is more in
+    let w = a.whole (some-is (next-op s).write pattern writes) in
+    let p = plain s is in
+    let full = source-full s is e.not_switched (next-op s).unit.0 a.in_range in
+    let there : (next-op s).unit.0 < length s.source.writes = subst (λ n. (next-op s).unit.0 < n) (sym p.source_counts) a.in_range in
+    record {
+      contents = ap (set s.source.contents (next-op s).unit.0) (sym (after-written (next-op s).write pattern (next-op s).offset (next-op s).len _ writes w.0 (full ∙ sym w.1)));
+      writes = λ u lt. counted-at s.source.writes (next-op s).unit.0 u (number s.source.writes u) there refl ((next-op s).unit.0 == u) refl
+          ∙ ap (λ b. (if b && ((next-op s).unit.0 == u) then 1 else 0) + number s.source.writes u) (sym (some-is (next-op s).write pattern writes));
+      counts = length-set s.source.writes (next-op s).unit.0 (number s.source.writes (next-op s).unit.0 + 1);
+      shape = refl;
+      plan = refl;
+      reads = omega arith;
+      write_calls = omega arith;
+    }
+
+-- a read
+pub read-acts : (s : State) (offset len : ℕ) → (next-op s).write ≡ None → Acted s (after (ReadRange (next-op s).unit.0 offset len) false s.source)
+read-acts s offset len none = record {
+  contents = sym (ap (λ w. set s.source.contents (next-op s).unit.0 (overlaid w (next-op s).offset (next-op s).len (unit_content s.source.contents (next-op s).unit.0))) none ∙ set-get_or s.source.contents (next-op s).unit.0 []);
+  writes = λ u lt. omega arith ∙ ap (λ b. (if b && ((next-op s).unit.0 == u) then 1 else 0) + number s.source.writes u) (sym (none-is (next-op s).write none));
+  counts = refl;
+  shape = refl;
+  plan = refl;
+  reads = omega arith;
+  write_calls = omega arith;
+}
+
+pub read-of : (op : UnitOp) (contents : List (List ℕ)) → op.write ≡ None → read_of op contents ≡ part op (unit_content contents op.unit.0)
+read-of op contents none = ap (λ (w : Option (List ℕ)). if is_none w then part op (unit_content contents op.unit.0) else []) none
+
 pub seen-early : (s : State) (old : Seen) → seen_of s ≡ old → has_begin old.journal ≡ false → has_begin s.journal ≡ false
 seen-early s old same h = ap (λ (m : Seen). has_begin m.journal) same ∙ h
 
-pub guest-unit : (s : State) (op : UnitOp) → IsState s → wait s.job (run s.job s.journal) act false ≡ None → op ≡ next-op s → op.unit.0 < units s.source.shape
-guest-unit s op is goes is_op =
-    subst (λ (o : UnitOp). o.unit.0 < units s.source.shape) (sym is_op)
-    (subst (λ (x : Shape). (next-op s).unit.0 < units x) (sym is.source_shape) (is-write s is (guest-more s is goes)).in_range)
+-- the operation as it is handed on
+pub seen-op : (s : State) (old : Seen) (op : UnitOp) → IsState s → seen_of s ≡ old → op ≡ next_operation (job_of old.job) (view_of old) 0 → op ≡ next-op s
+seen-op s old op is same next_is =
+    subst (λ (m : Seen). op ≡ next_operation (job_of m.job) (view_of m) 0) (sym same) next_is
+    ∙ ap (λ (v : View). next_operation (job_of s.job) v 0) (sym is.shows)
 
-pub guest-whole : (s : State) (op : UnitOp) (bytes : List ℕ) → IsState s → wait s.job (run s.job s.journal) act false ≡ None → op ≡ next-op s → bytes ≡ act-bytes s → length bytes ≡ size s.source.shape op.unit.0
-guest-whole s op bytes is goes is_op is_bytes =
-    ap length is_bytes ∙ length-repeated (written (next-op s)) (next-op s).len ∙ (is-write s is (guest-more s is goes)).to_end
-    ∙ ap (λ (x : Shape). size x (next-op s).unit.0) (sym is.source_shape) ∙ ap (λ (o : UnitOp). size s.source.shape o.unit.0) (sym is_op)
+-- the pattern that it writes
+abbrev pub written-of : Option (List ℕ) → List ℕ
+written-of None = []
+written-of (Some pattern) = pattern
 
-pub guest-few : (s : State) (op : UnitOp) → IsState s → has_begin s.journal ≡ false → wait s.job (run s.job s.journal) act false ≡ None → op ≡ next-op s → number s.source.writes op.unit.0 < 2 ^ 63
-guest-few s op is h goes is_op =
-    let e = early s is h in
-    let w = is-write s is (guest-more s is goes) in
-    let made = (plain s is).source_made (next-op s).unit.0 w.in_range ∙ ap (λ b. writes s.job s.history (next-op s).unit.0 (if b then unwrap_or s.stun 0 else length s.history)) e.not_switched in
-    let most = writes-few s.job s.history (next-op s).unit.0 (length s.history) in
-    let room = guest-room s is (guest-more s is goes) in
-    let limit = is.good.operations in
-    subst (λ (o : UnitOp). number s.source.writes o.unit.0 < 2 ^ 63) (sym is_op) (omega arith)
+write-is : (w : Option (List ℕ)) → IsSome w → w ≡ Some (written-of w)
+write-is None some = absurd (search rules)
+write-is (Some pattern) some = refl
 
--- the bytes that it writes
-pub guest-bytes : (s : State) (op : UnitOp) (bytes : List ℕ) → IsState s → wait s.job (run s.job s.journal) act false ≡ None → op ≡ next-op s → IfSome op.write (λ pattern. bytes ≡ repeated pattern op.len) → bytes ≡ act-bytes s
-guest-bytes s op bytes is goes is_op filled =
-    let w = is-write s is (guest-more s is goes) in
-    let at : IfSome (next-op s).write (λ pattern. bytes ≡ repeated pattern (next-op s).len) = subst (λ (o : UnitOp). IfSome o.write (λ pattern. bytes ≡ repeated pattern o.len)) is_op filled in
-    subst (λ (x : Option (List ℕ)). IfSome x (λ pattern. bytes ≡ repeated pattern (next-op s).len)) w.writes at
+read-is : (w : Option (List ℕ)) → IsNone w → w ≡ None
+read-is None none = refl
+read-is (Some pattern) none = absurd (search rules)
 
-some-is : (bytes : List ℕ) → IsSome (Some bytes)
-some-is bytes = search rules
+filled-by : (w : Option (List ℕ)) (len : ℕ) (bytes : List ℕ) → IsSome w → IfSome w (λ pattern. bytes ≡ repeated pattern len) → bytes ≡ repeated (written-of w) len
+filled-by None len bytes some filled = absurd (search rules)
+filled-by (Some pattern) len bytes some filled = filled
 
-pub guest-writes : (s : State) (op : UnitOp) → IsState s → wait s.job (run s.job s.journal) act false ≡ None → op ≡ next-op s → IsSome op.write
-guest-writes s op is goes is_op =
-    let w = is-write s is (guest-more s is goes) in
-    subst (λ (o : UnitOp). IsSome o.write) (sym is_op) (subst (λ (x : Option (List ℕ)). IsSome x) (sym w.writes) (some-is (written (next-op s))))
+module _ (s : State) (op : UnitOp) (is : IsState s) (h : has_begin s.journal ≡ false) (goes : wait (job_of s.job) (run (job_of s.job) s.journal) act false ≡ None) (is_op : op ≡ next-op s) where
+  pub guest-unit : op.unit.0 < units s.source.shape
+  guest-unit =
+      subst (λ (o : UnitOp). o.unit.0 < units s.source.shape) (sym is_op)
+      (subst (λ (x : Shape). (next-op s).unit.0 < units x) (sym is.source_shape) (is-act s is (guest-more s is goes)).in_range)
+
+  pub guest-within : op.offset + op.len ≤ size s.source.shape op.unit.0
+  guest-within =
+      subst (λ (o : UnitOp). o.offset + o.len ≤ size s.source.shape o.unit.0) (sym is_op)
+      (subst (λ (x : Shape). (next-op s).offset + (next-op s).len ≤ size x (next-op s).unit.0) (sym is.source_shape) (is-act s is (guest-more s is goes)).in_unit)
+
+  pub guest-few : number s.source.writes op.unit.0 < 2 ^ 63
+  guest-few =
+      let more = guest-more s is goes in
+      let e = early s is h more in
+      let a = is-act s is more in
+      let made = (plain s is).source_made (next-op s).unit.0 a.in_range ∙ ap (λ b. writes (job_of s.job) s.history (next-op s).unit.0 (if b then unwrap_or s.stun 0 else length s.history)) e.not_switched in
+      let most = writes-few (job_of s.job) s.history (next-op s).unit.0 (length s.history) in
+      let room = guest-room s is more in
+      let limit = is.good.operations in
+      subst (λ (o : UnitOp). number s.source.writes o.unit.0 < 2 ^ 63) (sym is_op) (omega arith)
+
+  -- a write
+  pub guest-whole : (bytes : List ℕ) → IsSome op.write → IfSome op.write (λ pattern. bytes ≡ repeated pattern op.len) → length bytes ≡ size s.source.shape op.unit.0
+  guest-whole bytes some filled =
+      let a = is-act s is (guest-more s is goes) in
+      let writes : (next-op s).write ≡ Some (written-of op.write) = ap (λ (o : UnitOp). o.write) (sym is_op) ∙ write-is op.write some in
+      ap length (filled-by op.write op.len bytes some filled) ∙ length-repeated (written-of op.write) op.len ∙ ap (λ (o : UnitOp). o.len) is_op ∙ (a.whole (some-is (next-op s).write (written-of op.write) writes)).1
+      ∙ ap (λ (x : Shape). size x (next-op s).unit.0) (sym is.source_shape) ∙ ap (λ (o : UnitOp). size s.source.shape o.unit.0) (sym is_op)
+
+  pub guest-writes-told : IsSome op.write → answer (job_of s.job) (run (job_of s.job) s.journal) act ≡ Done (record { a = 0; b = 0 })
+  guest-writes-told some = write-answer s is h goes (some-is (next-op s).write (written-of op.write) (ap (λ (o : UnitOp). o.write) (sym is_op) ∙ write-is op.write some))
+
+  no-bytes : IsSome op.write → s.reads ++ read_of (next-op s) s.source.contents ≡ s.reads
+  no-bytes some = read_of-write (next-op s) s.source.contents s.reads (some-is (next-op s).write (written-of op.write) (ap (λ (o : UnitOp). o.write) (sym is_op) ∙ write-is op.write some))
+
+  pub guest-writes-holds : (j : List Entry) (bytes : List ℕ) (source : Device) (history : List Ended) → j ≡ next s act → IsSome op.write → IfSome op.write (λ pattern. bytes ≡ repeated pattern op.len) →
+      source ≡ after (WriteUnit op.unit.0 bytes) false s.source → history ≡ push s.history entry-done → IsState (record s { journal = j; source = source; history = history })
+  guest-writes-holds j bytes source history same some filled wrote_it longer =
+      let pattern = written-of op.write in
+      let writes : (next-op s).write ≡ Some pattern = ap (λ (o : UnitOp). o.write) (sym is_op) ∙ write-is op.write some in
+      let bytes_are : bytes ≡ act-bytes s pattern = filled-by op.write op.len bytes some filled ∙ ap (λ (o : UnitOp). repeated pattern o.len) is_op in
+      let acts : source ≡ after (WriteUnit (next-op s).unit.0 (act-bytes s pattern)) false s.source =
+      wrote_it ∙ ap (λ (o : UnitOp). after (WriteUnit o.unit.0 bytes) false s.source) is_op ∙ ap (λ bs. after (WriteUnit (next-op s).unit.0 bs) false s.source) bytes_are in
+      let by = guest-by s j source is h goes same (subst (Acted s) (sym acts) (write-acts s pattern is h goes writes)) in
+      subst (λ es. IsState (record s { journal = j; source = source; history = es })) (sym longer)
+      (subst (λ bs. IsState (record s { journal = j; source = source; history = push s.history entry-done; reads = bs })) (no-bytes some) by)
+
+  pub guest-writes-read : IsSome op.write → s.reads ≡ s.reads ++ bytes_read (job_of s.job) (run (job_of s.job) s.journal) act
+  guest-writes-read some = sym (no-bytes some) ∙ ap (λ bs. s.reads ++ bs) (sym (guest-bytes s is h goes))
+
+  -- a read
+  reads-none : IsNone op.write → (next-op s).write ≡ None
+  reads-none none = ap (λ (o : UnitOp). o.write) (sym is_op) ∙ read-is op.write none
+
+  pub guest-reads-told : IsNone op.write → answer (job_of s.job) (run (job_of s.job) s.journal) act ≡ Done (record { a = op.len; b = 0 })
+  guest-reads-told none = read-answer s is h goes (none-is (next-op s).write (reads-none none)) ∙ ap (λ (o : UnitOp). Done (record { a = o.len; b = 0 })) (sym is_op)
+
+  the-bytes : (bytes : List ℕ) → IsNone op.write → bytes ≡ part op (unit_content s.source.contents op.unit.0) → bytes ≡ read_of (next-op s) s.source.contents
+  the-bytes bytes none found = found ∙ ap (λ (o : UnitOp). part o (unit_content s.source.contents o.unit.0)) is_op ∙ sym (read-of (next-op s) s.source.contents (reads-none none))
+
+  pub guest-reads-holds : (j : List Entry) (bytes reads : List ℕ) (source : Device) (history : List Ended) → j ≡ next s act → IsNone op.write → bytes ≡ part op (unit_content s.source.contents op.unit.0) → reads ≡ s.reads ++ bytes →
+      source ≡ after (ReadRange op.unit.0 op.offset op.len) false s.source → history ≡ push s.history entry-done → IsState (record s { journal = j; source = source; history = history; reads = reads })
+  guest-reads-holds j bytes reads source history same none found kept read longer =
+      let acts : source ≡ after (ReadRange (next-op s).unit.0 op.offset op.len) false s.source = read ∙ ap (λ (o : UnitOp). after (ReadRange o.unit.0 op.offset op.len) false s.source) is_op in
+      let by = guest-by s j source is h goes same (subst (Acted s) (sym acts) (read-acts s op.offset op.len (reads-none none))) in
+      subst (λ es. IsState (record s { journal = j; source = source; history = es; reads = reads })) (sym longer)
+      (subst (λ bs. IsState (record s { journal = j; source = source; history = push s.history entry-done; reads = bs })) (sym (kept ∙ ap (λ bs. s.reads ++ bs) (the-bytes bytes none found))) by)
+
+  pub guest-reads-read : (bytes reads : List ℕ) → IsNone op.write → bytes ≡ part op (unit_content s.source.contents op.unit.0) → reads ≡ s.reads ++ bytes → reads ≡ s.reads ++ bytes_read (job_of s.job) (run (job_of s.job) s.journal) act
+  guest-reads-read bytes reads none found kept = kept ∙ ap (λ bs. s.reads ++ bs) (the-bytes bytes none found ∙ sym (guest-bytes s is h goes))
+
+  pub guest-reads-short : (bytes reads : List ℕ) → IsNone op.write → bytes ≡ part op (unit_content s.source.contents op.unit.0) → reads ≡ s.reads ++ bytes → length reads ≤ length s.reads + 64
+  guest-reads-short bytes reads none found kept =
+      let a = is-act s is (guest-more s is goes) in
+      let few : (next-op s).len ≤ 64 = a.short (none-is (next-op s).write (reads-none none)) in
+      let same : op.len ≡ (next-op s).len = ap (λ (o : UnitOp). o.len) is_op in
+      let count : length bytes ≡ min op.len (length (drop op.offset (unit_content s.source.contents op.unit.0))) = ap length found ∙ length-take op.len (drop op.offset (unit_content s.source.contents op.unit.0)) in
+      let all : length reads ≡ length s.reads + length bytes = ap length kept ∙ length-append s.reads bytes in
+      omega arith

@@ -1,8 +1,7 @@
 -- The first message that is next, from a place on.
-use Rattle.std.specs.Prelude.{◌≡◌, ◌<◌, ◌≤◌, ℕ, zero, suc, ◌+◌, Bool, true, false, List, [], ◌∷◌, length, map, drop, get_or, if◌then◌else◌}
-use Rattle.std.proofs.Common.{refl, ap, sym, ◌∙◌, arith, add-one}
-use Rattle.std.proofs.lemmas.List.{length-map}
-use Rattle.xv_model.specs.View.{UnitHead, is_next, first_next}
+use Rattle.std.specs.Prelude.{◌≡◌, ◌<◌, ◌≤◌, ℕ, zero, suc, ◌+◌, Bool, true, false, List, [], ◌∷◌, length, drop, get_or, if◌then◌else◌}
+use Rattle.std.proofs.Common.{refl, ap, arith, add-one}
+use Rattle.xv_model.specs.View.{is_next, first_next}
 use Rattle.xv_core.specs.State.{heads, no_content}
 use Rattle.xv_core.specs.declared.message.Message.{Message}
 

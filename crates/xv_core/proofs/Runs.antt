@@ -13,6 +13,7 @@ use Rattle.xv_model.proofs.Kept.{step-holds}
 use Rattle.xv_model.proofs.Contents.Steps.{contents-step}
 use Rattle.xv_core.specs.State.{State, IsState, held_contents}
 use Rattle.xv_base.specs.declared.answer.Turn.TheVariants.{Done}
+use Rattle.xv_job.specs.Written.{job_of}
 
 -- the view after one entry more
 after-push : (job : Job) (v : View) (j : List Entry) (e : Entry) → after job v (j ++ e ∷ []) ≡ step job (after job v j) e.event (is_flagged e.turn)
@@ -48,32 +49,32 @@ contents-goes_on job v e c goes = ap (λ (why : Option Why). contents_by why fal
 
 -- the journal with the entry of an event that went on
 abbrev pub next : State → Event → List Entry
-next s e = s.journal ++ record { event = e; turn = answer s.job (run s.job s.journal) e } ∷ []
+next s e = s.journal ++ record { event = e; turn = answer (job_of s.job) (run (job_of s.job) s.journal) e } ∷ []
 
 -- what holds then
 pub record Next (s : State) (e : Event) : Type 0 where
-  pub becomes : run s.job (next s e) ≡ effect s.job (run s.job s.journal) e
-  pub journal : is_run s.job (next s e) ≡ true
-  pub view : IsViewOf s.job (run s.job (next s e))
-  pub contents : HoldsContents s.job (run s.job (next s e)) (moves s.job (run s.job s.journal) e (held_contents s))
+  pub becomes : run (job_of s.job) (next s e) ≡ effect (job_of s.job) (run (job_of s.job) s.journal) e
+  pub journal : is_run (job_of s.job) (next s e) ≡ true
+  pub view : IsViewOf (job_of s.job) (run (job_of s.job) (next s e))
+  pub contents : HoldsContents (job_of s.job) (run (job_of s.job) (next s e)) (moves (job_of s.job) (run (job_of s.job) s.journal) e (held_contents s))
 
-pub next-holds : (s : State) (e : Event) → IsState s → fits s.job e ≡ true → wait s.job (run s.job s.journal) e false ≡ None →
-    is_flagged (answer s.job (run s.job s.journal) e) ≡ false → same_turn (answer s.job (run s.job s.journal) e) (answer s.job (run s.job s.journal) e) ≡ true → Next s e
+pub next-holds : (s : State) (e : Event) → IsState s → fits (job_of s.job) e ≡ true → wait (job_of s.job) (run (job_of s.job) s.journal) e false ≡ None →
+    is_flagged (answer (job_of s.job) (run (job_of s.job) s.journal) e) ≡ false → same_turn (answer (job_of s.job) (run (job_of s.job) s.journal) e) (answer (job_of s.job) (run (job_of s.job) s.journal) e) ≡ true → Next s e
 next-holds s e is fit goes off same =
-    let v = run s.job s.journal in
-    let by_flag : run s.job (next s e) ≡ step s.job v e false = run-push s.job s.journal (record { event = e; turn = answer s.job v e }) ∙ ap (step s.job v e) off in
-    let told : turn s.job v e (is_flagged (answer s.job v e)) ≡ answer s.job v e = ap (turn s.job v e) off ∙ turn-goes_on s.job v e goes in
+    let v = run (job_of s.job) s.journal in
+    let by_flag : run (job_of s.job) (next s e) ≡ step (job_of s.job) v e false = run-push (job_of s.job) s.journal (record { event = e; turn = answer (job_of s.job) v e }) ∙ ap (step (job_of s.job) v e) off in
+    let told : turn (job_of s.job) v e (is_flagged (answer (job_of s.job) v e)) ≡ answer (job_of s.job) v e = ap (turn (job_of s.job) v e) off ∙ turn-goes_on (job_of s.job) v e goes in
     record {
-      becomes = by_flag ∙ step-goes_on s.job v e goes;
-      journal = is_run-push s.job s.journal (record { event = e; turn = answer s.job v e }) is.is_run (ap (same_turn (answer s.job v e)) told ∙ same);
-      view = subst (IsViewOf s.job) (sym by_flag) (step-holds s.job v e false is.good fit is.view);
-      contents = subst (λ w. HoldsContents s.job w (moves s.job v e (held_contents s))) (sym by_flag)
-          (subst (HoldsContents s.job (step s.job v e false)) (contents-goes_on s.job v e (held_contents s) goes) (contents-step s.job v (held_contents s) e false is.good fit is.view is.contents));
+      becomes = by_flag ∙ step-goes_on (job_of s.job) v e goes;
+      journal = is_run-push (job_of s.job) s.journal (record { event = e; turn = answer (job_of s.job) v e }) is.is_run (ap (same_turn (answer (job_of s.job) v e)) told ∙ same);
+      view = subst (IsViewOf (job_of s.job)) (sym by_flag) (step-holds (job_of s.job) v e false is.good fit is.view);
+      contents = subst (λ w. HoldsContents (job_of s.job) w (moves (job_of s.job) v e (held_contents s))) (sym by_flag)
+          (subst (HoldsContents (job_of s.job) (step (job_of s.job) v e false)) (contents-goes_on (job_of s.job) v e (held_contents s) goes) (contents-step (job_of s.job) v (held_contents s) e false is.good fit is.view is.contents));
     }
 
 -- and so where it is done
 pub same-done : (n : Note) → same_turn (Done n) (Done n) ≡ true
 same-done n = both (n.a == n.a) (n.b == n.b) (eq-eqb n.a n.a refl) (eq-eqb n.b n.b refl)
 
-pub next-done : (s : State) (e : Event) (n : Note) → IsState s → fits s.job e ≡ true → wait s.job (run s.job s.journal) e false ≡ None → answer s.job (run s.job s.journal) e ≡ Done n → Next s e
+pub next-done : (s : State) (e : Event) (n : Note) → IsState s → fits (job_of s.job) e ≡ true → wait (job_of s.job) (run (job_of s.job) s.journal) e false ≡ None → answer (job_of s.job) (run (job_of s.job) s.journal) e ≡ Done n → Next s e
 next-done s e n is fit goes told = next-holds s e is fit goes (ap is_flagged told) (ap (λ t. same_turn t t) told ∙ same-done n)

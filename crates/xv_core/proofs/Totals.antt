@@ -1,11 +1,11 @@
 -- The numbers of the report: the machine's, and small enough for 32 bits.
-use Rattle.std.specs.Prelude.{◌≡◌, ◌≤◌, ◌<◌, ℕ, zero, suc, ◌+◌, ◌-◌, ◌*◌, ◌^◌, ◌==◌, ◌&&◌, not, nat_lt, Bool, true, false, List, [], ◌∷◌, length, drop, get_or, sum, sum_by, count_by, is_some, Option, if◌then◌else◌}
+use Rattle.std.specs.Prelude.{◌≡◌, ◌≤◌, ◌<◌, ℕ, zero, suc, ◌+◌, ◌-◌, ◌^◌, ◌==◌, ◌&&◌, not, nat_lt, Bool, true, false, List, [], ◌∷◌, length, drop, get_or, sum, sum_by, count_by, is_some, if◌then◌else◌}
 use Rattle.std.proofs.Common.{refl, ap, sym, subst, ◌∙◌, arith, inl, inr}
 use Rattle.std.proofs.lemmas.Bool.{cases_eq, ne_eqb, lt-ltb, ltb-true}
-use Rattle.std.proofs.lemmas.List.Sums.{sum_by-take-drop, sum_by-cons, sum_by-le-sum_by}
+use Rattle.std.proofs.lemmas.List.Sums.{sum_by-cons, sum_by-le-sum_by}
 use Rattle.xv_model.specs.Job.{Job, IsGoodJob, unit_count, units, is_page, disk_of, block_of}
 use Rattle.xv_model.specs.Guest.{Ended, is_done, wrote, writes, operation_at, entry}
-use Rattle.xv_model.specs.View.{View, Phase, number, member, no_disk, is_behind, is_running}
+use Rattle.xv_model.specs.View.{View, number, no_disk, is_behind, is_running}
 use Rattle.xv_model.specs.Report.{totals}
 use Rattle.xv_model.specs.Invariant.{IsViewOf}
 use Rattle.xv_base.proofs.Within.{good_within}
@@ -15,8 +15,12 @@ use Rattle.xv_base.specs.declared.operation.Outcome.TheVariants.{Done, Faulted}
 use Rattle.xv_base.specs.declared.event.Totals.{Totals}
 use Rattle.xv_core.specs.Seen.{Seen, view_of}
 use Rattle.xv_core.specs.State.{State, IsState, seen_of}
+use Rattle.xv_core.specs.Copies.{DiskState}
+use Rattle.xv_core.proofs.CopiedAll.{cursors-le, cursors-shown}
+use Rattle.xv_core.proofs.Copying.{lies}
+use Rattle.xv_core.proofs.Shown.{disks-length}
 use Rattle.xv_core.proofs.Arrival.{Shows, now, shows}
-use Rattle.xv_core.proofs.Arrived.{writes-le}
+use Rattle.xv_job.specs.Written.{job_of}
 
 -- the sum of a function's values at so many numbers in a row
 abbrev total : (ℕ → ℕ) → ℕ → ℕ → ℕ
@@ -153,7 +157,7 @@ reported s = record {
   faulted = faulted s.history;
   journal = length s.journal;
   stun = s.stun;
-  copied = s.cursor;
+  copied = sum_by (λ (c : DiskState). c.cursor) s.disks;
   rounds = s.rounds;
   messages = sum s.issued;
   mirrors = sum (drop s.job.shape.pages s.issued) - count_by (λ (k : ℕ). nat_lt 0 k) (drop s.job.shape.pages s.issued);
@@ -161,12 +165,12 @@ reported s = record {
   credit = s.credit;
 }
 
-reported-at : (s : State) (v : View) → Shows s v → reported s ≡ totals s.job v (length s.journal)
-reported-at s v h = subst (λ (w : View). reported s ≡ totals s.job w (length s.journal)) h.shows
-    (let one : 0 + s.cursor ≡ s.cursor = omega arith in let same = faulted-is s.history in rw (same, one) refl)
+reported-at : (s : State) (v : View) → Shows s v → reported s ≡ totals (job_of s.job) v (length s.journal)
+reported-at s v h = subst (λ (w : View). reported s ≡ totals (job_of s.job) w (length s.journal)) h.shows
+    (let same = faulted-is s.history in let copied = cursors-shown s.disks in rw (same, copied) refl)
 
-pub reported-told : (s : State) (m : Seen) → IsState s → seen_of s ≡ m → reported s ≡ totals m.job (view_of m) (length m.journal)
-reported-told s m i seen = subst (λ (x : Seen). reported s ≡ totals x.job (view_of x) (length x.journal)) seen (reported-at s (now s) (shows s i))
+pub reported-told : (s : State) (m : Seen) → IsState s → seen_of s ≡ m → reported s ≡ totals (job_of m.job) (view_of m) (length m.journal)
+reported-told s m i seen = subst (λ (x : Seen). reported s ≡ totals (job_of x.job) (view_of x) (length x.journal)) seen (reported-at s (now s) (shows s i))
 
 -- the sums fit
 pub record SmallSums (s : State) : Type 0 where
@@ -174,7 +178,7 @@ pub record SmallSums (s : State) : Type 0 where
   pub applied : sum s.applied < 2 ^ 32
   pub pages_within : s.job.shape.pages ≤ length s.issued
 
-small-at : (s : State) (v : View) → IsGoodJob s.job → Shows s v → s.rounds ≤ 1 → length v.history ≤ 2 ^ 20 → SmallSums s
+small-at : (s : State) (v : View) → IsGoodJob (job_of s.job) → Shows s v → s.rounds ≤ 1 → length v.history ≤ 2 ^ 20 → SmallSums s
 small-at s v good h few short =
     let rounds : v.rounds ≤ 1 = subst (λ (w : View). w.rounds ≤ 1) h.shows few in
     let issued : s.issued ≡ v.outbox.issued = ap (λ (w : View). w.outbox.issued) h.shows in
@@ -182,9 +186,9 @@ small-at s v good h few short =
     let lists = h.view.lists in
     let mark = h.view.history.mark_within in
     let units = (good_within s.job.shape good.machine).few_units in
-    let most : (u : ℕ) → u < unit_count s.job → number v.outbox.issued u ≤ 2 + writes s.job v.history u v.mark = λ u lt. issued-most s.job v u h.view rounds lt in
-    let a = zero_sum s.job v v.outbox.issued lists.issued (λ u lt. most u (omega (arith, lists.issued))) in
-    let b = zero_sum s.job v v.hold.applied lists.applied (λ u lt. let m = most u (omega (arith, lists.applied)) in let o = h.view.versions.in_order u in omega arith) in
+    let most : (u : ℕ) → u < unit_count (job_of s.job) → number v.outbox.issued u ≤ 2 + writes (job_of s.job) v.history u v.mark = λ u lt. issued-most (job_of s.job) v u h.view rounds lt in
+    let a = zero_sum (job_of s.job) v v.outbox.issued lists.issued (λ u lt. most u (omega (arith, lists.issued))) in
+    let b = zero_sum (job_of s.job) v v.hold.applied lists.applied (λ u lt. let m = most u (omega (arith, lists.applied)) in let o = h.view.versions.in_order u in omega arith) in
     record {
       messages = rw issued (omega arith);
       applied = rw applied (omega arith);
@@ -197,3 +201,18 @@ small_sums s i =
     let room = i.history_room in
     let few = i.good.operations in
     small-at s (now s) i.good (shows s i) i.few_rounds (omega arith)
+
+-- the blocks behind the copy are no more than there are units
+pub small_cursors : (s : State) → IsState s → sum_by (λ (c : DiskState). c.cursor) s.disks < 2 ^ 32
+small_cursors s i =
+    let same = disks-length s i in
+    let le = cursors-le s.job.shape.disks s.disks same (λ d lt. let l = (lies s d i (omega arith)).within in omega arith) in
+    let few = (good_within s.job.shape i.good.machine).few_units in
+    omega arith
+
+-- the report, told number by number
+pub totals-told : (s : State) (m : Seen) (history fault_count journal copied messages mirrors applied : ℕ) → IsState s → seen_of s ≡ m →
+    history ≡ length s.history → fault_count ≡ faulted s.history → journal ≡ length s.journal → copied ≡ sum_by (λ (c : DiskState). c.cursor) s.disks → messages ≡ sum s.issued →
+    mirrors ≡ sum (drop s.job.shape.pages s.issued) - count_by (λ (k : ℕ). nat_lt 0 k) (drop s.job.shape.pages s.issued) → applied ≡ sum s.applied →
+    record { phase = s.phase; history = history; faulted = fault_count; journal = journal; stun = s.stun; copied = copied; rounds = s.rounds; messages = messages; mirrors = mirrors; applied = applied; credit = s.credit } ≡ totals (job_of m.job) (view_of m) (length m.journal)
+totals-told s m history fault_count journal copied messages mirrors applied i seen a b c d e f g = rw (a, b, c, d, e, f, g) (reported-told s m i seen)

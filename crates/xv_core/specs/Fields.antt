@@ -1,6 +1,7 @@
 -- The fields of a migration as its state.
 use Rattle.std.specs.Prelude.{ℕ}
-use Rattle.xv_model.specs.Job.{Job, operation_count}
+use Rattle.xv_model.specs.Job.{operation_count}
+use Rattle.xv_job.specs.Written.{Written, job_of}
 use Rattle.xv_core.specs.declared.migration.Migration.TheInside.{Inside}
 pub use Rattle.xv_core.specs.State.{State, IsState, seen_of}
 
@@ -13,9 +14,7 @@ state_of m = record {
   dest = m.dest;
   phase = m.phase;
   stun = m.stun;
-  cursor = m.cursor;
-  region = m.region;
-  blocks = m.blocks.items;
+  disks = m.disks;
   next_page = m.next_page;
   rounds = m.rounds;
   outbox = m.outbox.items;
@@ -26,8 +25,9 @@ state_of m = record {
   credit = m.credit;
   freed = m.freed;
   acks = m.acks.items;
+  reads = m.reads.items;
 }
 
 -- the room of a history that counts every operation of a job
-abbrev pub room_of : Job → ℕ
-room_of job = operation_count job
+abbrev pub room_of : Written → ℕ
+room_of job = operation_count (job_of job)

@@ -1,10 +1,12 @@
 //! What a migration takes at its start.
 
-ghost use Rattle.std.specs.Prelude.{◌≡◌, IfSome, [], replicate};
+ghost use Rattle.std.specs.Prelude.{◌≡◌, IfSome, [], length, replicate};
 ghost use Rattle.xv_model.specs.Job.{IsGoodJob, operation_count, unit_count};
-ghost use Rattle.xv_job.specs.Built.{IsBuilt};
+ghost use Rattle.xv_job.specs.Written.{job_of};
 ghost use Rattle.xv_device.specs.Memory.{fresh};
+ghost use Rattle.xv_core.specs.Copies.{no_copy};
 
+use crate::copies::Copies;
 use std::alloc::Global;
 use xv_device::{DevicePlan, MemDevice};
 use xv_guest::History;
@@ -16,6 +18,7 @@ pub struct Parts {
     pub history: History,
     pub source: MemDevice,
     pub dest: MemDevice,
+    pub disks: Copies,
     pub issued: Vec<u32>,
     pub applied: Vec<u32>,
     pub pages: u32,
@@ -25,15 +28,15 @@ pub struct Parts {
 impl Parts {
     /// The parts of a migration of this job; none for want of memory.
     pub fn new(alloc: Global, job: &Job) -> Option<Parts>
-        ensures history { IfSome result (λ parts. parts.history ≡ record { entries = []; room = operation_count job.now }) }
+        ensures history { IfSome result (λ parts. parts.history ≡ record { entries = []; room = operation_count (job_of job.now) }) }
         ensures source { IfSome result (λ parts. parts.source ≡ fresh job.now.shape job.now.init (record { reads = []; writes = []; flushes = [] })) }
         ensures dest { IfSome result (λ parts. parts.dest ≡ fresh job.now.shape [] (record { reads = []; writes = []; flushes = [] })) }
-        ensures issued { IfSome result (λ parts. parts.issued.items ≡ replicate (unit_count job.now) 0) }
-        ensures applied { IfSome result (λ parts. parts.applied.items ≡ replicate (unit_count job.now) 0) }
+        ensures disks { IfSome result (λ parts. parts.disks ≡ replicate (length job.now.shape.disks) no_copy) }
+        ensures issued { IfSome result (λ parts. parts.issued.items ≡ replicate (unit_count (job_of job.now)) 0) }
+        ensures applied { IfSome result (λ parts. parts.applied.items ≡ replicate (unit_count (job_of job.now)) 0) }
         ensures pages { IfSome result (λ parts. parts.pages ≡ job.now.shape.pages) }
         ensures credit { IfSome result (λ parts. parts.credit ≡ job.now.config.credit) }
-        ensures good { IfSome result (λ parts. IsGoodJob job.now) }
-        ensures built { IfSome result (λ parts. IsBuilt job.now) }
+        ensures good { IfSome result (λ parts. IsGoodJob (job_of job.now)) }
     {
         let units = job.layout.units() as usize;
         let pages = job.layout.pages();
@@ -47,6 +50,9 @@ impl Parts {
         let Ok(dest) = MemDevice::new(alloc, &job.layout, &[], no_faults(alloc)) else {
             return None;
         };
+        let Some(disks) = Copies::new(alloc, job.layout.disks()) else {
+            return None;
+        };
         let Ok(issued) = Vec::from_elem(alloc, 0, units) else {
             return None;
         };
@@ -57,6 +63,7 @@ impl Parts {
             history,
             source,
             dest,
+            disks,
             issued,
             applied,
             pages,

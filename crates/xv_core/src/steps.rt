@@ -4,7 +4,7 @@ ghost use Rattle.std.specs.Prelude.{◌≡◌, ◌≤◌, ◌<◌, ◌+◌, ◌+
 ghost use Rattle.std.specs.VecDeque.{deque_len, deque_capacity};
 ghost use Rattle.xv_base.specs.Pattern.{repeated};
 ghost use Rattle.xv_base.specs.Units.{units, size};
-ghost use Rattle.xv_device.specs.Device.{ReadRange, content};
+ghost use Rattle.xv_device.specs.Device.{ReadRange, content, range_of};
 ghost use Rattle.xv_device.specs.Memory.{after};
 ghost use Rattle.xv_model.specs.View.{is_next, first_next};
 ghost use Rattle.xv_model.specs.Wait.{unless};
@@ -63,6 +63,34 @@ pub fn content_of(alloc: Global, device: &mut MemDevice, unit: UnitId) -> Option
         unreachable!()
     };
     Some(Content::new(bytes))
+}
+
+/// Reads what an operation reads of its unit, on a device whose reads do not fail; none for want of memory, and then no
+/// call is made.
+pub fn part_of(alloc: Global, device: &mut MemDevice, op: &UnitOp) -> Option<Vec<u8>>
+    requires unit_in { op.now.unit.0 < units device.old.shape }
+    requires range_in { op.now.offset + op.now.len ≤ size device.old.shape op.now.unit.0 }
+    requires sure { device.old.plan.reads ≡ [] }
+    requires countable { device.old.calls.reads < 2 ^ 63 }
+    ensures read { OnSome result (device.new ≡ after (ReadRange op.now.unit.0 op.now.offset op.now.len) false device.old) }
+    ensures bytes { IfSome result (λ bytes. bytes.items ≡ range_of op.now.unit.0 op.now.offset op.now.len device.old.contents) }
+    ensures unread { IfNone result (device.new ≡ device.old) }
+{
+    let mut bytes = Vec::from_elem(alloc, 0, op.len as usize).ok()?;
+    let Ok(()) = device.read(op.unit, op.offset, &mut bytes) else {
+        unreachable!()
+    };
+    Some(bytes)
+}
+
+/// Appends bytes for which there is room.
+pub fn keep_bytes(kept: &mut Vec<u8>, bytes: &[u8])
+    requires { vec_len kept.old + length bytes.now ≤ vec_capacity kept.old }
+    ensures { kept.new.items ≡ kept.old.items ++ bytes.now }
+{
+    let Ok(()) = kept.extend_from_slice(bytes) else {
+        unreachable!()
+    };
 }
 
 /// Makes a message of the unit's next version, for which the outbox has room, and answers the version.

@@ -1,6 +1,9 @@
 -- The lines of a script, and the lines that its events answer.
-use Rattle.std.specs.Prelude.{◌≡◌, ℕ, nat_lt, Bool, true, false, List, [], ◌∷◌, ◌++◌, codes, decimal, if◌then◌else◌}
+use Rattle.std.specs.Prelude.{ℕ, nat_lt, List, [], ◌∷◌, ◌++◌, codes, decimal, if◌then◌else◌}
 use Rattle.xv_base.specs.declared.event.Event.{Event}
+use Rattle.xv_base.specs.declared.event.Probe.{Probe}
+use Rattle.xv_base.specs.declared.event.Side.{Side}
+use Rattle.xv_base.specs.declared.event.Side.TheVariants.{Ahead, Inside, Behind, Dirty, Waiting, Clean}
 use Rattle.xv_base.specs.declared.event.Event.TheVariants.{Guest, Begin, Read, Advance, Release, Round, Page, Send, Deliver, Apply, Ack, Credit, Stun, Switch, Cancel}
 use Rattle.xv_base.specs.declared.answer.Note.{Note}
 use Rattle.xv_base.specs.declared.answer.Turn.{Turn}
@@ -10,6 +13,7 @@ use Rattle.xv_base.specs.declared.answer.Why.TheVariants.{TraceEnd, InQueue, Can
 use Rattle.xv_base.specs.declared.answer.Cause.{Cause}
 use Rattle.xv_base.specs.declared.answer.Cause.TheVariants.{SourceRead, DestWrite, Flush, Put, Take, AckPut, AckTake}
 use Rattle.xv_base.specs.Hex.{hex}
+use Rattle.xv_text.specs.Lines.{line}
 use Rattle.xv_script.specs.declared.line.Line.{Line}
 use Rattle.xv_script.specs.declared.line.Line.TheVariants.{Step, Ask}
 
@@ -92,6 +96,32 @@ turn_text event NoMemory read = codes "no-memory"
 -- the line of an event and its answer
 abbrev pub turn_line : Event → Turn → List ℕ → List ℕ
 turn_line event turn read = event_words event ++ 32 ∷ turn_text event turn read ++ 10 ∷ []
+
+-- where a unit stands
+abbrev pub side_words : Side → List ℕ
+side_words Ahead = codes "ahead"
+side_words Inside = codes "inside"
+side_words Behind = codes "behind"
+side_words Dirty = codes "dirty"
+side_words Waiting = codes "waiting"
+side_words Clean = codes "clean"
+
+-- the line of what is asked of a unit: where it stands, its versions made and written, and its messages in the outbox,
+-- on the streams and held
+abbrev pub probe_fields : Probe → List (List ℕ)
+probe_fields p =
+    codes "probe"
+    ∷ decimal p.unit.0
+    ∷ side_words p.side
+    ∷ decimal p.issued
+    ∷ decimal p.applied
+    ∷ decimal p.outbox
+    ∷ decimal p.wires
+    ∷ decimal p.held
+    ∷ []
+
+abbrev pub probe_line : Probe → List ℕ
+probe_line p = line (probe_fields p)
 
 -- a line of a script: an event, or a unit that is asked for
 abbrev pub line_words : Line → List ℕ

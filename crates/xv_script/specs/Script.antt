@@ -1,15 +1,26 @@
 -- A script as far as its lines have been read; what is wrong with a line, and the script after it.
-use Rattle.std.specs.Prelude.{ℕ, ◌&&◌, ◌||◌, not, nat_le, Bool, true, false, List, [], ◌∷◌, ◌++◌, length, Option, Some, None, if◌then◌else◌}
+use Rattle.std.specs.Prelude.{◌≡◌, ℕ, ◌&&◌, ◌||◌, not, nat_le, nat_lt, Bool, true, false, List, [], ◌∷◌, ◌++◌, length, Option, Some, None, Result, Ok, Err}
+use Rattle.std.specs.List.{list_all}
+use Rattle.xv_base.specs.declared.text.LineFault.{LineFault}
+use Rattle.xv_base.specs.declared.text.TextError.{TextError}
+use Rattle.xv_base.specs.declared.text.TextError.TheVariants.{Fault, NoMemory}
 use Rattle.xv_base.specs.declared.text.LineWhy.{LineWhy}
 use Rattle.xv_base.specs.declared.text.LineWhy.TheVariants.{BadWord, OutOfRange, Unbuilt}
+use Rattle.xv_text.specs.Lines.{lines_of, has_rest}
 use Rattle.xv_text.specs.Fields.{values, number_at, fields_fault, or_else, fault_if}
-use Rattle.xv_text.specs.Reading.{Reader}
+use Rattle.xv_text.specs.Reading.{Reader, first_fault, last_state}
 use Rattle.xv_trace.specs.OpText.{head, tail}
 use Rattle.xv_model.specs.Job.{Job, guest_count, unit_count}
-use Rattle.xv_script.specs.Words.{word_of, Named, Nothing, OfGuests, OfDisks, OfStreams, OfUnits, named, kinds, lines_said}
+use Rattle.xv_model.specs.Wait.{fits}
+use Rattle.xv_job.specs.BuiltEvents.{is_built_event, is_guest, is_begin, are_built}
+use Rattle.xv_script.specs.Lines.{events_of}
+use Rattle.xv_script.specs.Words.{word_of, named, kinds, line_said}
+use Rattle.xv_script.specs.declared.counts.Counts.{Counts}
 use Rattle.xv_script.specs.declared.line.Line.{Line}
+use Rattle.xv_script.specs.declared.line.Line.TheVariants.{Step, Ask}
+use Rattle.xv_script.specs.declared.word.Named.{Named}
+use Rattle.xv_script.specs.declared.word.Named.TheVariants.{Nothing, OfGuests, OfDisks, OfStreams, OfUnits}
 use Rattle.xv_script.specs.declared.word.Word.{Word}
-use Rattle.xv_script.specs.declared.word.Word.TheVariants.{Guest, Begin, Read, Advance, Release, Round, Page, Send, Deliver, Apply, Ack, Credit, Stun, Switch, Cancel, Probe, Stop}
 
 -- the lines so far, whether a region has begun, and whether `stop` has come
 pub record Script : Type 0 where
@@ -20,102 +31,100 @@ pub record Script : Type 0 where
 abbrev pub first_script : Script
 first_script = record { lines = []; began = false; stopped = false }
 
--- how many guests, disks, streams or units the job has
-abbrev pub count_of : Job → Named → ℕ
-count_of job Nothing = 1
-count_of job OfGuests = guest_count job
-count_of job OfDisks = length job.shape.disks
-count_of job OfStreams = job.config.streams
-count_of job OfUnits = unit_count job
+-- how many guests, disks, streams and units a job has
+abbrev pub counts_of : Job → Counts
+counts_of job = record { guests = guest_count job; disks = length job.shape.disks; streams = job.config.streams; units = unit_count job }
 
+-- how many there are of what a word names
+abbrev pub count_of : Counts → Named → ℕ
+count_of counts Nothing = 1
+count_of counts OfGuests = counts.guests
+count_of counts OfDisks = counts.disks
+count_of counts OfStreams = counts.streams
+count_of counts OfUnits = counts.units
+
+-- the number behind a word, and 0 behind one that names nothing
 abbrev pub number_said : Word → List (List ℕ) → ℕ
 number_said word args = number_at (values (kinds (named word)) args) 0
 
-abbrev pub range_fault : Job → Word → List (List ℕ) → Option LineWhy
-range_fault job word args = fault_if (nat_le (count_of job (named word)) (number_said word args)) OutOfRange
+abbrev pub range_fault : Counts → Word → List (List ℕ) → Option LineWhy
+range_fault counts word args = fault_if (nat_le (count_of counts (named word)) (number_said word args)) OutOfRange
 
--- what is not built yet: a guest's event once a region has begun, a release, a cancel and a probe
-abbrev pub is_unbuilt : Bool → Word → Bool
-is_unbuilt began Guest = began
-is_unbuilt began Begin = false
-is_unbuilt began Read = false
-is_unbuilt began Advance = false
-is_unbuilt began Release = true
-is_unbuilt began Round = false
-is_unbuilt began Page = false
-is_unbuilt began Send = false
-is_unbuilt began Deliver = false
-is_unbuilt began Apply = false
-is_unbuilt began Ack = false
-is_unbuilt began Credit = false
-is_unbuilt began Stun = false
-is_unbuilt began Switch = false
-is_unbuilt began Cancel = true
-is_unbuilt began Probe = true
-is_unbuilt began Stop = false
+-- what is not built yet: a guest's event once a region has begun, a release, a cancel, and a unit that is asked for
+abbrev pub is_unbuilt : Bool → Option Line → Bool
+is_unbuilt began None = false
+is_unbuilt began (Some (Step event)) = not (is_built_event event) || (began && is_guest event)
+is_unbuilt began (Some (Ask unit)) = true
 
-abbrev pub is_begin_word : Word → Bool
-is_begin_word Guest = false
-is_begin_word Begin = true
-is_begin_word Read = false
-is_begin_word Advance = false
-is_begin_word Release = false
-is_begin_word Round = false
-is_begin_word Page = false
-is_begin_word Send = false
-is_begin_word Deliver = false
-is_begin_word Apply = false
-is_begin_word Ack = false
-is_begin_word Credit = false
-is_begin_word Stun = false
-is_begin_word Switch = false
-is_begin_word Cancel = false
-is_begin_word Probe = false
-is_begin_word Stop = false
-
-abbrev pub is_stop_word : Word → Bool
-is_stop_word Guest = false
-is_stop_word Begin = false
-is_stop_word Read = false
-is_stop_word Advance = false
-is_stop_word Release = false
-is_stop_word Round = false
-is_stop_word Page = false
-is_stop_word Send = false
-is_stop_word Deliver = false
-is_stop_word Apply = false
-is_stop_word Ack = false
-is_stop_word Credit = false
-is_stop_word Stun = false
-is_stop_word Switch = false
-is_stop_word Cancel = false
-is_stop_word Probe = false
-is_stop_word Stop = true
-
--- what is wrong with a line, the first reason, and the script after it
-abbrev pub word_fault : Job → Bool → Option Word → List (List ℕ) → Option LineWhy
-word_fault job began None args = Some BadWord
-word_fault job began (Some word) args =
+-- what is wrong with a line, the first reason: its word, what follows it, a number that names nothing, and what is not
+-- built
+abbrev pub word_fault : Counts → Bool → Option Word → List (List ℕ) → Option LineWhy
+word_fault counts began None args = Some BadWord
+word_fault counts began (Some word) args =
     or_else (fields_fault (kinds (named word)) args)
-    (or_else (range_fault job word args) (fault_if (is_unbuilt began word) Unbuilt))
+    (or_else (range_fault counts word args) (fault_if (is_unbuilt began (line_said word (number_said word args))) Unbuilt))
 
-abbrev pub script_fault : Job → Script → List (List ℕ) → Option LineWhy
-script_fault job s fields = word_fault job s.began (word_of (head fields)) (tail fields)
+abbrev pub line_fault : Counts → Bool → List (List ℕ) → Option LineWhy
+line_fault counts began line = word_fault counts began (word_of (head line)) (tail line)
 
-abbrev pub script_by : Script → Option Word → List (List ℕ) → Script
-script_by s None args = s
-script_by s (Some word) args = record {
-  lines = s.lines ++ lines_said word (number_said word args);
-  began = s.began || is_begin_word word;
-  stopped = is_stop_word word;
-}
+-- the line that fields without a fault say; none where the script stops
+abbrev pub line_by : Option Word → List (List ℕ) → Option Line
+line_by None args = None
+line_by (Some word) args = line_said word (number_said word args)
 
-abbrev pub next_script : Script → List (List ℕ) → Script
-next_script s fields = script_by s (word_of (head fields)) (tail fields)
+abbrev pub line_in : List (List ℕ) → Option Line
+line_in line = line_by (word_of (head line)) (tail line)
 
+-- the script with one line more, or stopped
+abbrev pub begins : Line → Bool
+begins (Step event) = is_begin event
+begins (Ask unit) = false
+
+abbrev pub with_line : Script → Option Line → Script
+with_line s None = record s { stopped = true }
+with_line s (Some line) = record s { lines = s.lines ++ line ∷ []; began = s.began || begins line }
+
+-- what reads a script, where there are so many of what its lines name
 abbrev pub is_stopped : Script → Bool
 is_stopped s = s.stopped
 
+abbrev pub fault_in : Counts → Script → List (List ℕ) → Option LineWhy
+fault_in counts s line = line_fault counts s.began line
+
+abbrev pub next_script : Script → List (List ℕ) → Script
+next_script s line = with_line s (line_in line)
+
+abbrev pub reader : Counts → Reader Script
+reader counts = record { is_ended = is_stopped; fault = fault_in counts; next = next_script }
+
 -- what reads a script of a job
 abbrev pub script_reader : Job → Reader Script
-script_reader job = record { is_ended = is_stopped; fault = script_fault job; next = next_script }
+script_reader job = reader (counts_of job)
+
+-- what is wrong with a text whose first line has this number, and the lines that one without a fault says
+abbrev pub text_fault : Counts → ℕ → List ℕ → Option LineFault
+text_fault counts first text = first_fault (reader counts) true first_script first (lines_of text) (has_rest text)
+
+abbrev pub text_lines : Counts → List ℕ → List Line
+text_lines counts text = (last_state (reader counts) first_script (lines_of text)).lines
+
+-- whether what a line names is in the job
+abbrev pub is_in : Job → Line → Bool
+is_in job (Step event) = fits job event
+is_in job (Ask unit) = nat_lt unit.0 (unit_count job)
+
+abbrev pub is_step : Line → Bool
+is_step (Step event) = true
+is_step (Ask unit) = false
+
+-- the lines that a script of a job may have so far
+pub record IsScriptOf (job : Job) (lines : List Line) : Type 0 where
+  pub in_job : list_all (is_in job) lines ≡ true
+  pub steps : list_all is_step lines ≡ true
+  pub built : are_built false (events_of lines) ≡ true
+
+-- a fact of the fault of a text that is not read
+abbrev pub IfFault : {A : Type 0} → Result A TextError → (LineFault → Type 0) → Type 0
+IfFault (Ok value) P = Unit {0}
+IfFault (Err (Fault fault)) P = P fault
+IfFault (Err NoMemory) P = Unit {0}

@@ -1,15 +1,21 @@
 // The script of a replay, and the lines that its events answer.
 //
-// Contracts see a `Line` as its variants. The layer above may rely on this: what is read is the one script of the
-// built form that the whole text is, where nothing is read for a fault there is none, and a printed line is a stated
-// function of the event, its answer and the bytes read.
+// Contracts see a `Line` as its variants. The layer above may rely on this: what is read are the lines of the one
+// script of the job that the whole text is; a text that is none is refused by its first faulty line; and a printed
+// line is a stated function of the event, its answer and the bytes read, or of what was asked of a unit.
 #![tactic(auto)]
 
+mod counts;
 mod line;
 mod print;
+mod read;
 mod word;
 
+pub use counts::Counts;
 pub use line::Line;
-pub use print::print_turn;
-pub use word::Word;
+pub use print::{print_probe, print_turn};
+pub use read::read_events;
+pub use word::{Named, Word};
 
+#[cfg(test)]
+mod tests;

@@ -2,9 +2,9 @@
 
 ghost use Rattle.std.specs.Prelude.{◌≡◌, ◌≤◌, ◌+◌, ◌++◌, length, codes, decimal};
 ghost use Rattle.xv_base.specs.Hex.{hex};
-ghost use Rattle.xv_script.specs.Lines.{event_words, why_words, cause_words, done_two, done_guest, done_text, turn_text, turn_line};
+ghost use Rattle.xv_script.specs.Lines.{event_words, why_words, cause_words, done_two, done_guest, done_text, turn_text, turn_line, side_words, probe_line};
 
-use xv_base::{Cause, Event, LineBuf, Note, Turn, Why};
+use xv_base::{Cause, Event, LineBuf, Note, Probe, Side, Turn, Why};
 
 /// The line of an event and its answer, with its line feed. `read` are the bytes that a guest read, where that is
 /// the answer. Takes no memory.
@@ -18,6 +18,37 @@ pub fn print_turn(event: Event, turn: Turn, read: &[u8]) -> LineBuf
     push_turn(&mut line, event, turn, read);
     line.push(b'\n');
     line
+}
+
+/// The line of what is asked of a unit, with its line feed. Takes no memory.
+pub fn print_probe(probe: Probe) -> LineBuf
+    ensures { result ≡ probe_line probe }
+{
+    let mut line = LineBuf::new();
+    push_numbered(&mut line, b"probe ", probe.unit.0);
+    line.push(b' ');
+    push_word(&mut line, side_word(probe.side));
+    push_numbered(&mut line, b" ", probe.issued);
+    push_numbered(&mut line, b" ", probe.applied);
+    push_numbered(&mut line, b" ", probe.outbox);
+    push_numbered(&mut line, b" ", probe.wires);
+    push_numbered(&mut line, b" ", probe.held);
+    line.push(b'\n');
+    line
+}
+
+fn side_word(side: Side) -> &'static [u8]
+    ensures exactly { result.now ≡ side_words side }
+    ensures few { length result.now ≤ 10 }
+{
+    match side {
+        Side::Ahead => b"ahead",
+        Side::Inside => b"inside",
+        Side::Behind => b"behind",
+        Side::Dirty => b"dirty",
+        Side::Waiting => b"waiting",
+        Side::Clean => b"clean",
+    }
 }
 
 fn push_event(line: &mut LineBuf, event: Event)

@@ -11,11 +11,9 @@ use Rattle.xv_model.proofs.First.{first_view-holds}
 use Rattle.xv_model.proofs.Kept.{step-holds, run-holds}
 use Rattle.xv_model.proofs.Contents.Steps.{contents-first}
 use Rattle.xv_model.proofs.Contents.Runs.{contents-run}
-use Rattle.xv_job.specs.Built.{IsBuilt}
-use Rattle.xv_job.specs.BuiltEvents.{are_built}
 use Rattle.xv_top.specs.Top.{HoldsAfter}
 use Rattle.xv_top.proofs.Plain.{plain_play, play-plain}
-use Rattle.xv_top.proofs.Scripts.{entries_fit, play_fits, fits-take, are_built-fit}
+use Rattle.xv_top.proofs.Scripts.{entries_fit, play_fits, fits-take}
 
 pub holds_after : (job : Job) (journal : List Entry) → IsGoodJob job → entries_fit job journal ≡ true → HoldsAfter job journal
 holds_after job journal good fit =
@@ -28,8 +26,8 @@ holds_after job journal good fit =
       );
     }
 
-pub always : (job : Job) (events : List Event) → IsGoodJob job → IsBuilt job → are_built false events ≡ true → (n : ℕ) → HoldsAfter job (play job (take n events))
-always job events good built all n =
-    subst (λ (journal : List Entry). HoldsAfter job journal) (sym (play-plain job (take n events) built.no_faults))
+pub always : (job : Job) (events : List Event) → IsGoodJob job → job.faults ≡ [] → list_all (λ e. fits job e) events ≡ true → (n : ℕ) → HoldsAfter job (play job (take n events))
+always job events good sure fit n =
+    subst (λ (journal : List Entry). HoldsAfter job journal) (sym (play-plain job (take n events) sure))
     (holds_after job (plain_play job (first_view job) (take n events)) good
-    (play_fits job (take n events) (first_view job) (fits-take job n events (are_built-fit job events false built all))))
+    (play_fits job (take n events) (first_view job) (fits-take job n events fit)))

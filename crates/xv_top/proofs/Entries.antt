@@ -11,8 +11,6 @@ use Rattle.xv_model.specs.Effect.{Turn, effect, answer, guest_answer, group_note
 use Rattle.xv_model.specs.Step.{Entry, Call, step, turn, view_by, turn_by, breaks, call, after, run, is_flagged, is_wait, entry_of, is_planned, same_truth, is_faithful_from, is_faithful, play}
 use Rattle.xv_base.specs.declared.event.Event.TheVariants.{Guest, Begin, Read, Advance, Release, Round, Page, Send, Deliver, Apply, Ack, Credit, Stun, Switch, Cancel}
 use Rattle.xv_base.specs.declared.answer.Turn.TheVariants.{Done, Wait, Queued}
-use Rattle.xv_job.specs.Built.{IsBuilt}
-use Rattle.xv_job.specs.BuiltEvents.{is_built_event, is_guest, is_begin, are_built, has_begin}
 use Rattle.xv_top.proofs.Plain.{plain_play, play-plain, planned-none}
 
 -- an answer is no wait and no failure

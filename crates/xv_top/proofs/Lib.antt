@@ -6,3 +6,4 @@ pub mod Inputs
 pub mod Results
 pub mod Always
 pub mod Words
+pub mod Refusals

@@ -4,7 +4,7 @@ use Rattle.std.specs.Prelude.{◌&&◌, ◌||◌, not, is_none, is_some, if◌th
 use Rattle.std.specs.List.{list_all}
 use Rattle.std.proofs.lemmas.Bool.{and_parts, and_from, cases_lt}
 use Rattle.std.proofs.Math.Bool.{or_assoc}
-use Rattle.std.proofs.Math.Seq.{take-append-add}
+use Rattle.std.proofs.Math.Seq.{take-append-add, drop-append_seam}
 use Rattle.std.proofs.lemmas.List.{take-append-le, get_or_past, nil_from_length, length-drop}
 use Rattle.xv_io.specs.Io.{TookMore, TookFront}
 use Rattle.xv_io.proofs.Told.{took-both}
@@ -14,51 +14,51 @@ use Rattle.xv_model.specs.View.{View, first_view}
 use Rattle.xv_model.specs.Wait.{Event, wait}
 use Rattle.xv_model.specs.Effect.{Turn}
 use Rattle.xv_model.specs.Step.{Entry, step, turn, run, after, entry_of, is_wait}
-use Rattle.xv_job.specs.Built.{IsBuilt}
+use Rattle.xv_job.specs.Written.{Written, job_of}
 use Rattle.xv_job.specs.BuiltEvents.{is_built_event, is_guest, is_begin, are_built, has_begin}
 use Rattle.xv_script.specs.Lines.{turn_line}
 use Rattle.xv_script.specs.declared.line.Line.{Line}
 use Rattle.xv_script.specs.declared.line.Line.TheVariants.{Step}
-use Rattle.xv_core.specs.Seen.{Seen, view_of, IsStep, is_no_memory}
-use Rattle.xv_top.specs.Playing.{IsPlayed}
+use Rattle.xv_core.specs.Seen.{Seen, view_of, bytes_read, IsStep, is_no_memory}
+use Rattle.xv_top.specs.Playing.{IsPlayed, line_played}
 use Rattle.xv_top.specs.Replay.{transcript}
 use Rattle.xv_top.proofs.Plain.{plain_play, plain_transcript, transcript-plain}
 use Rattle.xv_top.proofs.Entries.{after-entry}
-
--- a job of the built form reads nothing
-pub read_of-none : (op : UnitOp) (bytes : List ℕ) (done write : Bool) → is_none op.write ≡ write → (write ≡ true → op ≡ no_operation) → (if done && write then part op bytes else []) ≡ []
-read_of-none op bytes false write is none = refl
-read_of-none op bytes true false is none = refl
-read_of-none op bytes true true is none = ap (λ (o : UnitOp). part o bytes) (none refl)
-
-pub operation-built : (job : Job) (guest k : ℕ) → IsBuilt job → is_none (operation job guest k).write ≡ true → operation job guest k ≡ no_operation
-operation-built job guest k built reads =
-    elim (cases_lt k (length (trace job guest))) [ inl inside ↦ absurd (let bad : false ≡ true = subst (λ w. is_none w ≡ true) (built.block_writes guest k inside).writes reads in cc) | inr outside ↦ get_or_past (trace job guest) k no_operation outside ]
-
-pub read_bytes-built : (job : Job) (history : List Ended) (i : ℕ) → IsBuilt job → read_bytes job history i ≡ []
-read_bytes-built job history i built =
-    read_of-none (operation_at job history i) (content job history (operation_at job history i).unit.0 i) (is_done (entry history i).outcome) (is_none (operation_at job history i).write) refl
-    (operation-built job (entry history i).guest.0 (ended (take i history) (entry history i).guest.0) built)
 
 -- a front that goes past a first part
 pub take-seam : (before piece more : List ℕ) (n : ℕ) → n ≤ length piece → take (length before + n) (before ++ (piece ++ more)) ≡ before ++ take n piece
 take-seam before piece more n within =
     take-append-add before (piece ++ more) n ∙ ap (λ bytes. before ++ bytes) (take-append-le n piece more within)
 
+-- how far the bytes read have grown, and the line that is printed
+pub reads-grow : (old new : Seen) (e : Event) (t : Turn) → is_no_memory t ≡ false → IsStep old e t new → length old.reads ≤ length new.reads
+reads-grow old new e t there step = omega (arith, ap (λ (bytes : List ℕ). length bytes) (step.reads there), length-append old.reads (bytes_read (job_of old.job) (view_of old) e))
+
+pub read-is : (old new : Seen) (e : Event) (t : Turn) (before now read : List ℕ) → is_no_memory t ≡ false → IsStep old e t new → before ≡ old.reads → now ≡ new.reads → read ≡ drop (length before) now → read ≡ bytes_read (job_of old.job) (view_of old) e
+read-is old new e t before now read there step was is cut =
+    cut ∙ (ap (λ (bytes : List ℕ). drop (length bytes) now) was
+    ∙ (ap (λ (bytes : List ℕ). drop (length old.reads) bytes) (is ∙ step.reads there)
+    ∙ drop-append_seam old.reads (bytes_read (job_of old.job) (view_of old) e)))
+
+pub line-is : (old new : Seen) (e : Event) (t : Turn) (before now read : List ℕ) → is_no_memory t ≡ false → IsStep old e t new → before ≡ old.reads → now ≡ new.reads → read ≡ drop (length before) now → turn_line e t read ≡ line_played old e
+line-is old new e t before now read there step was is cut =
+    ap (λ (u : Turn). turn_line e u read) (step.answers there)
+    ∙ ap (λ (bytes : List ℕ). turn_line e (turn (job_of old.job) (view_of old) e false) bytes) (read-is old new e t before now read there step was is cut)
+
 -- Where a play stands: the job, the entries and the text so far, with what is still to come behind them.
-pub record IsPlaying (job : Job) (events : List Event) (begin now : Option (List ℕ)) (m : Seen) (rest : List Event) : Type 0 where
-  pub of_job : m.job ≡ job
-  pub journal : m.journal ++ plain_play job (run job m.journal) rest ≡ plain_play job (first_view job) events
+pub record IsPlaying (w : Written) (events : List Event) (begin now : Option (List ℕ)) (m : Seen) (rest : List Event) : Type 0 where
+  pub of_job : m.job ≡ w
+  pub journal : m.journal ++ plain_play (job_of w) (run (job_of w) m.journal) rest ≡ plain_play (job_of w) (first_view (job_of w)) events
   pub text : List ℕ
   pub taken : TookMore begin now text
-  pub to_come : text ++ plain_transcript job (run job m.journal) rest ≡ plain_transcript job (first_view job) events
+  pub to_come : text ++ plain_transcript (job_of w) (run (job_of w) m.journal) rest ≡ plain_transcript (job_of w) (first_view (job_of w)) events
   pub built : are_built (has_begin m.journal) rest ≡ true
 
 pub took-none : (t : Option (List ℕ)) → TookMore t t []
 took-none None = refl
 took-none (Some xs) = ap Some (sym (append-nil xs))
 
-pub playing-begins : (job : Job) (events : List Event) (m : Seen) (t : Option (List ℕ)) → m.job ≡ job → m.journal ≡ [] → are_built false events ≡ true → IsPlaying job events t t m events
+pub playing-begins : (job : Written) (events : List Event) (m : Seen) (t : Option (List ℕ)) → m.job ≡ job → m.journal ≡ [] → are_built false events ≡ true → IsPlaying job events t t m events
 playing-begins job events m t same empty built = record {
   of_job = same;
   journal = rw empty refl;
@@ -102,34 +102,37 @@ entries-step job js e rest =
     append_assoc js (entry_of e t) (plain_play job (run job (js ++ entry_of e t)) rest)
     ∙ ap (λ (v : View). js ++ (entry_of e t ++ plain_play job v rest)) (after-entry job js (first_view job) e)
 
-pub playing-step : (job : Job) (events : List Event) (begin now next : Option (List ℕ)) (m new : Seen) (e : Event) (rest : List Event) → IsBuilt job → IsPlaying job events begin now m (e ∷ rest) → IsPlayed m e new now next → IsPlaying job events begin next new rest
-playing-step job events begin now next m new e rest built playing played =
+-- the line of an event that is played, of the job that it is
+pub line-of_job : (w : Written) (m : Seen) (e : Event) → m.job ≡ w → line_played m e ≡ turn_line e (turn (job_of w) (run (job_of w) m.journal) e false) (bytes_read (job_of w) (run (job_of w) m.journal) e)
+line-of_job w m e same = ap (λ (x : Written). turn_line e (turn (job_of x) (run (job_of x) m.journal) e false) (bytes_read (job_of x) (run (job_of x) m.journal) e)) same
+
+pub playing-step : (w : Written) (events : List Event) (begin now next : Option (List ℕ)) (m new : Seen) (e : Event) (rest : List Event) → IsPlaying w events begin now m (e ∷ rest) → IsPlayed m e new now next → IsPlaying w events begin next new rest
+playing-step w events begin now next m new e rest playing played =
+    let job = job_of w in
     let t = played.answer in
     let answers : t ≡ turn job (run job m.journal) e false =
-    subst (λ (j : Job). t ≡ turn j (run j m.journal) e false) playing.of_job (played.stepped.answers played.there) in
+    subst (λ (x : Written). t ≡ turn (job_of x) (run (job_of x) m.journal) e false) playing.of_job (played.stepped.answers played.there) in
     let grown : new.journal ≡ m.journal ++ entry_of e (turn job (run job m.journal) e false) =
     played.stepped.journal played.there ∙ ap (λ (u : Turn). m.journal ++ entry_of e u) answers in
     let leads : run job new.journal ≡ step job (run job m.journal) e false =
     ap (λ (js : List Entry). run job js) grown ∙ after-entry job m.journal (first_view job) e in
-    let line : TookMore now next (turn_line e (turn job (run job m.journal) e false) []) =
-    subst (λ (j : Job). TookMore now next (turn_line e (turn j (run j m.journal) e false) [])) playing.of_job played.line in
-    let silent : read_bytes job (step job (run job m.journal) e false).history (length (run job m.journal).history) ≡ [] =
-    read_bytes-built job (step job (run job m.journal) e false).history (length (run job m.journal).history) built in
+    let said = turn_line e (turn job (run job m.journal) e false) (bytes_read job (run job m.journal) e) in
+    let line : TookMore now next said =
+    subst (λ (text : List ℕ). TookMore now next text) (line-of_job w m e playing.of_job) played.line in
     let whole = and_parts (is_built_event e && not (has_begin m.journal && is_guest e)) (are_built (has_begin m.journal || is_begin e) rest) playing.built in
     record {
       of_job = played.stepped.job ∙ playing.of_job;
       journal = ap (λ (js : List Entry). js ++ plain_play job (run job js) rest) grown ∙ (entries-step job m.journal e rest ∙ playing.journal);
-      text = playing.text ++ turn_line e (turn job (run job m.journal) e false) [];
+      text = playing.text ++ said;
       taken = took-both begin now next _ _ playing.taken line;
       to_come =
-          append_assoc playing.text (turn_line e (turn job (run job m.journal) e false) []) (plain_transcript job (run job new.journal) rest)
-          ∙ (ap (λ (v : View). playing.text ++ (turn_line e (turn job (run job m.journal) e false) [] ++ plain_transcript job v rest)) leads
-          ∙ (ap (λ (read : List ℕ). playing.text ++ (turn_line e (turn job (run job m.journal) e false) read ++ plain_transcript job (step job (run job m.journal) e false) rest)) (sym silent) ∙ playing.to_come));
+          append_assoc playing.text said (plain_transcript job (run job new.journal) rest)
+          ∙ (ap (λ (v : View). playing.text ++ (said ++ plain_transcript job v rest)) leads ∙ playing.to_come);
       built = subst (λ (js : List Entry). are_built (has_begin js) rest ≡ true) (sym grown) (built-rest m.journal e (turn job (run job m.journal) e false) rest (is_wait (turn job (run job m.journal) e false)) refl whole.1);
     }
 
 -- what a play of all events has made and written
-pub played-all : (job : Job) (events : List Event) (begin now : Option (List ℕ)) (m : Seen) → IsPlaying job events begin now m [] → (m.journal ≡ plain_play job (first_view job) events) × TookMore begin now (plain_transcript job (first_view job) events)
+pub played-all : (job : Written) (events : List Event) (begin now : Option (List ℕ)) (m : Seen) → IsPlaying job events begin now m [] → (m.journal ≡ plain_play (job_of job) (first_view (job_of job)) events) × TookMore begin now (plain_transcript (job_of job) (first_view (job_of job)) events)
 played-all job events begin now m playing = (
   sym (append-nil m.journal) ∙ playing.journal,
   subst (λ (text : List ℕ). TookMore begin now text) (sym (append-nil playing.text) ∙ playing.to_come) playing.taken,
@@ -151,15 +154,13 @@ lines-step lines i d e there is =
     cut ∙ ap (λ (l : Line). l ∷ drop (i + 1) lines) is
 
 -- where the line of an event is not taken whole, a front of the whole transcript has been taken
-pub playing-front : (job : Job) (events : List Event) (begin now next : Option (List ℕ)) (m : Seen) (e : Event) (rest : List Event) → IsBuilt job → IsPlaying job events begin now m (e ∷ rest) → TookFront now next (turn_line e (turn m.job (view_of m) e false) []) → TookFront begin next (transcript job events)
-playing-front job events begin now next m e rest built playing front =
-    let line : TookFront now next (turn_line e (turn job (run job m.journal) e false) []) =
-    subst (λ (j : Job). TookFront now next (turn_line e (turn j (run j m.journal) e false) [])) playing.of_job front in
-    let silent : read_bytes job (step job (run job m.journal) e false).history (length (run job m.journal).history) ≡ [] =
-    read_bytes-built job (step job (run job m.journal) e false).history (length (run job m.journal).history) built in
-    let whole : playing.text ++ (turn_line e (turn job (run job m.journal) e false) [] ++ plain_transcript job (step job (run job m.journal) e false) rest) ≡ transcript job events =
-    ap (λ (read : List ℕ). playing.text ++ (turn_line e (turn job (run job m.journal) e false) read ++ plain_transcript job (step job (run job m.journal) e false) rest)) (sym silent)
-    ∙ (playing.to_come ∙ sym (transcript-plain job events built.no_faults)) in
+pub playing-front : (w : Written) (events : List Event) (begin now next : Option (List ℕ)) (m : Seen) (e : Event) (rest : List Event) → (job_of w).faults ≡ [] → IsPlaying w events begin now m (e ∷ rest) → TookFront now next (line_played m e) → TookFront begin next (transcript (job_of w) events)
+playing-front w events begin now next m e rest sure playing front =
+    let job = job_of w in
+    let line : TookFront now next (turn_line e (turn job (run job m.journal) e false) (bytes_read job (run job m.journal) e)) =
+    subst (λ (text : List ℕ). TookFront now next text) (line-of_job w m e playing.of_job) front in
+    let whole : playing.text ++ (turn_line e (turn job (run job m.journal) e false) (bytes_read job (run job m.journal) e) ++ plain_transcript job (step job (run job m.journal) e false) rest) ≡ transcript job events =
+    playing.to_come ∙ sym (transcript-plain job events sure) in
     front-piece begin now next playing.text _ _ _ playing.taken line whole
 
 -- a fact of an error, whatever the result

@@ -9,26 +9,27 @@ use Rattle.std.proofs.lemmas.List.FromFn.{fill_by_all}
 use Rattle.xv_model.specs.Job.{unit_count}
 use Rattle.xv_model.specs.Report.{totals, source_content, dest_content}
 use Rattle.xv_report.specs.Texts.{report_text, image_text}
+use Rattle.xv_job.specs.Written.{job_of}
 use Rattle.xv_core.specs.Seen.{Seen, view_of, IsKept}
 use Rattle.xv_top.specs.Replay.{sources, dests, result_text}
 
-pub sources-are : (m : Seen) → IsKept m → m.source.contents ≡ sources m.job (view_of m)
-sources-are m kept = fill_by_all (source_content m.job (view_of m)) m.source.contents (unit_count m.job) [] kept.source_units kept.source
+pub sources-are : (m : Seen) → IsKept m → m.source.contents ≡ sources (job_of m.job) (view_of m)
+sources-are m kept = fill_by_all (source_content (job_of m.job) (view_of m)) m.source.contents (unit_count (job_of m.job)) [] kept.source_units kept.source
 
-pub dests-are : (m : Seen) → IsKept m → m.dest.contents ≡ dests m.job (view_of m)
-dests-are m kept = fill_by_all (dest_content m.job (view_of m)) m.dest.contents (unit_count m.job) [] kept.dest_units kept.dest
+pub dests-are : (m : Seen) → IsKept m → m.dest.contents ≡ dests (job_of m.job) (view_of m)
+dests-are m kept = fill_by_all (dest_content (job_of m.job) (view_of m)) m.dest.contents (unit_count (job_of m.job)) [] kept.dest_units kept.dest
 
-pub image-is : (m : Seen) → IsKept m → image_text m.source.contents m.dest.contents ≡ image_text (sources m.job (view_of m)) (dests m.job (view_of m))
+pub image-is : (m : Seen) → IsKept m → image_text m.source.contents m.dest.contents ≡ image_text (sources (job_of m.job) (view_of m)) (dests (job_of m.job) (view_of m))
 image-is m kept =
     ap (λ (xs : List (List ℕ)). image_text xs m.dest.contents) (sources-are m kept)
-    ∙ ap (λ (ys : List (List ℕ)). image_text (sources m.job (view_of m)) ys) (dests-are m kept)
+    ∙ ap (λ (ys : List (List ℕ)). image_text (sources (job_of m.job) (view_of m)) ys) (dests-are m kept)
 
-pub result-is : (m : Seen) (t : Totals) (s d : Device) → IsKept m → t ≡ totals m.job (view_of m) (length m.journal) → s ≡ m.source → d ≡ m.dest → result_text m.job m.journal ≡ report_text t ++ image_text s.contents d.contents
+pub result-is : (m : Seen) (t : Totals) (s d : Device) → IsKept m → t ≡ totals (job_of m.job) (view_of m) (length m.journal) → s ≡ m.source → d ≡ m.dest → result_text (job_of m.job) m.journal ≡ report_text t ++ image_text s.contents d.contents
 result-is m t s d kept of_totals of_source of_dest =
     sym (ap (λ (u : Totals). report_text u ++ image_text s.contents d.contents) of_totals
-    ∙ (ap (λ (x : Device). report_text (totals m.job (view_of m) (length m.journal)) ++ image_text x.contents d.contents) of_source
-    ∙ (ap (λ (x : Device). report_text (totals m.job (view_of m) (length m.journal)) ++ image_text m.source.contents x.contents) of_dest
-    ∙ ap (λ (text : List ℕ). report_text (totals m.job (view_of m) (length m.journal)) ++ text) (image-is m kept))))
+    ∙ (ap (λ (x : Device). report_text (totals (job_of m.job) (view_of m) (length m.journal)) ++ image_text x.contents d.contents) of_source
+    ∙ (ap (λ (x : Device). report_text (totals (job_of m.job) (view_of m) (length m.journal)) ++ image_text m.source.contents x.contents) of_dest
+    ∙ ap (λ (text : List ℕ). report_text (totals (job_of m.job) (view_of m) (length m.journal)) ++ text) (image-is m kept))))
 
 -- what holds of an Ok, where the result is no error
 pub ok-of : {T E : Type 0} → (r : Result T E) (P : Type 0) → is_err r ≡ false → OnOk r P → P

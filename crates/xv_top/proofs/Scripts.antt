@@ -3,14 +3,15 @@ use Rattle.std.proofs.Common.{◌≡◌, ℕ, zero, suc, ◌<◌, Bool, true, fa
 use Rattle.std.specs.Prelude.{◌&&◌, ◌||◌, not, nat_eq, nat_lt, ◌==◌}
 use Rattle.std.specs.List.{list_all, list_any}
 use Rattle.std.proofs.lemmas.Bool.{and_parts, and_from, eqb-true}
-use Rattle.xv_model.specs.Job.{Job, Fault, guest_count}
+use Rattle.xv_model.specs.Job.{Job, Fault, unit_count}
 use Rattle.xv_model.specs.View.{View, first_view}
 use Rattle.xv_model.specs.Wait.{Event, Why, wait, fits}
 use Rattle.xv_model.specs.Effect.{Turn, answer}
 use Rattle.xv_model.specs.Step.{Entry, Call, step, turn, call, is_flagged, is_wait, entry_of, is_planned, same_truth, is_faithful_from, is_faithful, play}
-use Rattle.xv_base.specs.declared.event.Event.TheVariants.{Guest, Begin, Read, Advance, Release, Round, Page, Send, Deliver, Apply, Ack, Credit, Stun, Switch, Cancel}
-use Rattle.xv_job.specs.Built.{IsBuilt}
-use Rattle.xv_job.specs.BuiltEvents.{is_built_event, is_guest, is_begin, are_built}
+use Rattle.xv_script.specs.Lines.{events_of}
+use Rattle.xv_script.specs.Script.{is_in}
+use Rattle.xv_script.specs.declared.line.Line.{Line}
+use Rattle.xv_script.specs.declared.line.Line.TheVariants.{Step, Ask}
 use Rattle.xv_top.proofs.Plain.{plain_play, play-plain, planned-none}
 use Rattle.xv_top.proofs.Entries.{answer-plain}
 
@@ -51,30 +52,10 @@ fits-take job (suc n) (e ∷ es) fit =
     let parts = and_parts (fits job e) (list_all (λ f. fits job f) es) fit in
     and_from _ _ parts.0 (fits-take job n es parts.1)
 
--- the events of the built form fit a job of the built form
-pub below_one : (k n : ℕ) → (k == 0) ≡ true → n ≡ 1 → nat_lt k n ≡ true
-below_one k n zero_is one_is = rw (eqb-true k 0 zero_is, one_is) refl
-
-pub built-fits : (job : Job) (e : Event) → IsBuilt job → is_built_event e ≡ true → fits job e ≡ true
-built-fits job (Guest g) built is = below_one g.0 (guest_count job) is built.one_guest
-built-fits job (Begin d) built is = below_one d (length job.shape.disks) is built.one_disk
-built-fits job (Read d) built is = below_one d (length job.shape.disks) is built.one_disk
-built-fits job (Advance d) built is = below_one d (length job.shape.disks) is built.one_disk
-built-fits job (Release d) built is = cc
-built-fits job Round built is = refl
-built-fits job Page built is = refl
-built-fits job (Send s) built is = below_one s job.config.streams is built.one_stream
-built-fits job (Deliver s) built is = below_one s job.config.streams is built.one_stream
-built-fits job Apply built is = refl
-built-fits job Ack built is = refl
-built-fits job Credit built is = refl
-built-fits job Stun built is = refl
-built-fits job Switch built is = refl
-built-fits job Cancel built is = refl
-
-pub are_built-fit : (job : Job) (es : List Event) (began : Bool) → IsBuilt job → are_built began es ≡ true → list_all (λ e. fits job e) es ≡ true
-are_built-fit job [] began built all = refl
-are_built-fit job (e ∷ es) began built all =
-    let whole = and_parts (is_built_event e && not (began && is_guest e)) (are_built (began || is_begin e) es) all in
-    let first = and_parts (is_built_event e) (not (began && is_guest e)) whole.0 in
-    and_from _ _ (built-fits job e built first.0) (are_built-fit job es (began || is_begin e) built whole.1)
+-- the events of a script fit where its lines name what is there
+pub events_fit : (job : Job) (lines : List Line) → list_all (is_in job) lines ≡ true → list_all (λ e. fits job e) (events_of lines) ≡ true
+events_fit job [] all = refl
+events_fit job (Step e ∷ ls) all =
+    let parts = and_parts (fits job e) (list_all (is_in job) ls) all in
+    and_from _ _ parts.0 (events_fit job ls parts.1)
+events_fit job (Ask unit ∷ ls) all = events_fit job ls (and_parts (nat_lt unit.0 (unit_count job)) (list_all (is_in job) ls) all).1

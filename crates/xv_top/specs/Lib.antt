@@ -1,3 +1,4 @@
+pub mod Refused
 pub mod Replay
 pub mod Top
 pub mod Playing

@@ -1,21 +1,21 @@
 -- What the answers of the top call mean.
-use Rattle.std.specs.Prelude.{◌≡◌, ◌⊎◌, ℕ, true, false, List, [], ◌∷◌, take, codes, Option, Some, None, IfSome}
-use Rattle.std.specs.List.{list_all}
+use Rattle.std.specs.Prelude.{◌≡◌, ◌⊎◌, ℕ, true, List, [], ◌∷◌, take, codes, Option, Some, None, IfSome, ⊤}
 use Rattle.xv_io.specs.Io.{IsAtEnd, GaveAtLeast, TookMore, TookFront}
 use Rattle.xv_base.specs.declared.text.LineFault.{LineFault}
 use Rattle.xv_model.specs.Job.{Job}
-use Rattle.xv_model.specs.Wait.{fits}
 use Rattle.xv_model.specs.Step.{Entry, run, play, is_faithful}
 use Rattle.xv_model.specs.Invariant.{IsViewOf}
 use Rattle.xv_model.specs.Contents.{Contents, HoldsContents}
 use Rattle.xv_job.specs.Written.{Written, job_of, IsGoodWritten}
 use Rattle.xv_job.specs.Built.{IsBuilt}
-use Rattle.xv_job.specs.BuiltEvents.{are_built}
 use Rattle.xv_script.specs.Lines.{events_of}
+use Rattle.xv_script.specs.Script.{IsScriptOf}
 use Rattle.xv_script.specs.declared.line.Line.{Line}
 use Rattle.xv_core.specs.Seen.{Seen, IsKept}
 use Rattle.xv_top.specs.Replay.{input_text, output_text}
 use Rattle.xv_top.specs.Refused.{input_fault, refused_line}
+use Rattle.xv_top.specs.declared.input.InputError.{InputError}
+use Rattle.xv_top.specs.declared.input.InputError.TheVariants.{Refused, ReadFault, NoMemory}
 
 -- the words are the one word `replay`
 abbrev pub IsReplay : List (List ℕ) → Type 0
@@ -26,8 +26,7 @@ pub record IsInput (bytes : List ℕ) (written : Written) (lines : List Line) : 
   pub no_fault : input_fault bytes ≡ None
   pub good : IsGoodWritten written
   pub built : IsBuilt written
-  pub script_built : are_built false (events_of lines) ≡ true
-  pub fits : list_all (λ e. fits (job_of written) e) (events_of lines) ≡ true
+  pub script : IsScriptOf (job_of written) lines
   pub text : bytes ≡ input_text written lines
 
 -- these bytes are refused so
@@ -62,3 +61,14 @@ abbrev pub IsFrontFor : Option (List ℕ) → Option (List ℕ) → Option (List
 IsFrontFor bytes old new =
     ((fault : LineFault) × IsFrontOfRefusal bytes old new fault)
     ⊎ ((written : Written) × ((lines : List Line) × IsFrontOf bytes old new written lines))
+
+-- what a refused input is refused for, and whether a read failed
+abbrev pub RefusedSo : InputError → (LineFault → Type 0) → Type 0
+RefusedSo (Refused fault) P = P fault
+RefusedSo ReadFault P = ⊤
+RefusedSo NoMemory P = ⊤
+
+abbrev pub IsReadFault : InputError → Type 0
+IsReadFault (Refused fault) = ⊥
+IsReadFault ReadFault = ⊤
+IsReadFault NoMemory = ⊥

@@ -1,12 +1,15 @@
 //! The input of the program, read and checked whole.
 
-ghost use Rattle.std.specs.Prelude.{◌≡◌, ◌≢◌, ◌≤◌, ◌+◌, ◌⊎◌, ℕ, List, length, IfSome, IfOk, OnOk, IsErrOf};
+ghost use Rattle.std.specs.Prelude.{◌≡◌, ◌≤◌, ◌+◌, ◌⊎◌, Some, length, drop, take, IfSome, IfOk, IfErr, OnOk, IsErrOf};
 ghost use Rattle.xv_io.specs.Io.{CountRose, IsAtEnd, GaveAtLeast};
-ghost use Rattle.xv_script.specs.Lines.{IsBuiltScript};
-ghost use Rattle.xv_top.specs.Top.{input_limit, IsInput, IsNoInput};
+ghost use Rattle.xv_job.specs.Written.{job_of};
+ghost use Rattle.xv_job.specs.Built.{IsBuilt};
+ghost use Rattle.xv_script.specs.Script.{IsScriptOf};
+ghost use Rattle.xv_top.specs.Refused.{input_limit, input_fault};
+ghost use Rattle.xv_top.specs.Top.{IsInput, IsRefused, IsReadFault, RefusedSo};
 
 use std::alloc::Global;
-use xv_base::TextError;
+use xv_base::{LineFault, LineWhy, TextError};
 use xv_io::{ReadAll, Source, read_all};
 use xv_job::{Job, read_job};
 use xv_script::{Line, read_events};
@@ -17,8 +20,8 @@ const LIMIT: u32 = 67_108_864;
 /// Why there is no job to run.
 #[derive(Clone, Copy)]
 pub enum InputError {
-    /// The input is not of the built form, or is too long.
-    Refused,
+    /// The input is refused, by its first faulty line or as too long.
+    Refused(LineFault),
     /// A read failed.
     ReadFault,
     NoMemory,
@@ -27,36 +30,57 @@ pub enum InputError {
 /// Reads a job and its script, to the end of the input.
 pub fn read_input<I: Source>(alloc: Global, input: &mut I) -> Result<(Job, Vec<Line>), InputError>
     ensures text { IfOk result (λ found. IfSome (I.left input.old) (λ bytes. IsInput bytes found.0 found.1.items)) }
-    ensures script { IfOk result (λ found. IsBuiltScript found.1.items) }
+    ensures built { IfOk result (λ found. IsBuilt found.0) }
+    ensures script { IfOk result (λ found. IsScriptOf (job_of found.0) found.1.items) }
     ensures ended { OnOk result (IsAtEnd (I.left input.new)) }
-    ensures refused { IsErrOf result InputError.Refused → IfSome (I.left input.old) IsNoInput }
-    ensures refused_reads { IsErrOf result InputError.Refused → IsAtEnd (I.left input.new) ⊎ GaveAtLeast (input_limit + 1) (I.left input.old) (I.left input.new) }
-    ensures fault { IsErrOf result InputError.ReadFault → CountRose (I.faults input.old) (I.faults input.new) }
+    ensures refused { IfErr result (λ error. RefusedSo error (λ fault. IfSome (I.left input.old) (λ bytes. IsRefused bytes fault))) }
+    ensures refused_reads { IfErr result (λ error. RefusedSo error (λ fault. IsAtEnd (I.left input.new) ⊎ GaveAtLeast (input_limit + 1) (I.left input.old) (I.left input.new))) }
+    ensures fault { IfErr result (λ error. IsReadFault error → CountRose (I.faults input.old) (I.faults input.new)) }
 {
     let text = match read_all(alloc, input, LIMIT) {
         Ok(text) => text,
-        Err(ReadAll::TooLong) => return Err(InputError::Refused),
+        Err(ReadAll::TooLong) => return Err(InputError::Refused(too_long())),
         Err(ReadAll::ReadFault) => return Err(InputError::ReadFault),
         Err(ReadAll::NoMemory) => return Err(InputError::NoMemory),
     };
     parse(alloc, &text)
 }
 
+/// The fault of an input of too many bytes.
+fn too_long() -> LineFault
+    ensures { result ≡ record { line = 0; why = LineWhy.Limit 1 } }
+{
+    LineFault {
+        line: 0,
+        why: LineWhy::Limit(1),
+    }
+}
+
 /// The job and the script that a text is.
 fn parse(alloc: Global, text: &[u8]) -> Result<(Job, Vec<Line>), InputError>
     requires { length text.now ≤ input_limit }
     ensures text { IfOk result (λ found. IsInput text.now found.0 found.1.items) }
-    ensures refused { IsErrOf result InputError.Refused → IsNoInput text.now }
-    ensures no_fault { result ≢ Err InputError.ReadFault }
+    ensures built { IfOk result (λ found. IsBuilt found.0) }
+    ensures script { IfOk result (λ found. IsScriptOf (job_of found.0) found.1.items) }
+    ensures refused { IfErr result (λ error. RefusedSo error (λ fault. IsRefused text.now fault)) }
+    ensures no_fault { IfErr result (λ error. IsReadFault error → ⊥) }
 {
     let (job, place) = match read_job(alloc, text) {
         Ok(found) => found,
-        Err(TextError::Fault(_)) => return Err(InputError::Refused),
+        Err(TextError::Fault(fault)) => return Err(InputError::Refused(fault)),
         Err(TextError::NoMemory) => return Err(InputError::NoMemory),
     };
-    match read_events(alloc, &job, &text[place.byte..], place.line) {
+    match read_events(alloc, &job, behind(text, place.byte), place.line) {
         Ok(lines) => Ok((job, lines)),
-        Err(TextError::Fault(_)) => Err(InputError::Refused),
+        Err(TextError::Fault(fault)) => Err(InputError::Refused(fault)),
         Err(TextError::NoMemory) => Err(InputError::NoMemory),
     }
+}
+
+/// The bytes behind the first `n`.
+pub fn behind(bytes: &[u8], n: usize) -> &[u8]
+    requires { n ≤ length bytes.now }
+    ensures { result.now ≡ drop n bytes.now }
+{
+    &bytes[n..]
 }

@@ -2,6 +2,7 @@
 
 ghost use Rattle.std.specs.Prelude.{◌≡◌, OnOk, OnErr};
 ghost use Rattle.xv_io.specs.Io.{CountRose, TookMore, TookFront};
+ghost use Rattle.xv_job.specs.Written.{job_of};
 ghost use Rattle.xv_core.specs.Seen.{IsKept};
 ghost use Rattle.xv_top.specs.Replay.{result_text};
 
@@ -11,8 +12,8 @@ use xv_report::{write_image, write_report};
 
 /// Writes the report and the image of a migration, and hands all on.
 pub fn write_result<O: Sink>(migration: &Migration, output: &mut O) -> Result<(), WriteFault>
-    ensures whole { OnOk result (TookMore (O.taken output.old) (O.taken output.new) (result_text migration.now.job migration.now.journal)) }
-    ensures front { TookFront (O.taken output.old) (O.taken output.new) (result_text migration.now.job migration.now.journal) }
+    ensures whole { OnOk result (TookMore (O.taken output.old) (O.taken output.new) (result_text (job_of migration.now.job) migration.now.journal)) }
+    ensures front { TookFront (O.taken output.old) (O.taken output.new) (result_text (job_of migration.now.job) migration.now.journal) }
     ensures fault { OnErr result (CountRose (O.faults output.old) (O.faults output.new)) }
     ensures kept { IsKept migration.now }
 {

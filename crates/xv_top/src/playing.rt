@@ -2,14 +2,18 @@
 
 ghost use Rattle.std.specs.Prelude.{◌≡◌, ◌≤◌, true, false, [], OnOk, OnErr, IsErrOf};
 ghost use Rattle.xv_io.specs.Io.{CountRose, TookMore, TookFront};
-ghost use Rattle.xv_model.specs.Step.{play, turn};
+ghost use Rattle.xv_model.specs.Step.{play};
+ghost use Rattle.xv_model.specs.Wait.{fits};
+ghost use Rattle.xv_job.specs.Written.{job_of};
 ghost use Rattle.xv_job.specs.Built.{IsBuilt};
 ghost use Rattle.xv_job.specs.BuiltEvents.{is_built_event, is_guest, has_begin};
-ghost use Rattle.xv_script.specs.Lines.{IsBuiltScript, events_of, turn_line};
-ghost use Rattle.xv_core.specs.Seen.{view_of, is_no_memory};
+ghost use Rattle.xv_script.specs.Lines.{events_of};
+ghost use Rattle.xv_script.specs.Script.{IsScriptOf};
+ghost use Rattle.xv_core.specs.Seen.{is_no_memory};
 ghost use Rattle.xv_top.specs.Replay.{transcript};
-ghost use Rattle.xv_top.specs.Playing.{IsPlayed};
+ghost use Rattle.xv_top.specs.Playing.{IsPlayed, line_played};
 
+use crate::input::behind;
 use std::alloc::Global;
 use xv_base::{Event, Turn};
 use xv_core::Migration;
@@ -32,11 +36,11 @@ pub fn play<O: Sink>(
 ) -> Result<(), PlayError>
     requires begins { migration.old.journal ≡ [] }
     requires job_built { IsBuilt migration.old.job }
-    requires built { IsBuiltScript lines.now }
+    requires script { IsScriptOf (job_of migration.old.job) lines.now }
     ensures job { migration.new.job ≡ migration.old.job }
-    ensures journal { OnOk result (migration.new.journal ≡ play migration.old.job (events_of lines.now)) }
-    ensures written { OnOk result (TookMore (O.taken output.old) (O.taken output.new) (transcript migration.old.job (events_of lines.now))) }
-    ensures front { OnErr result (TookFront (O.taken output.old) (O.taken output.new) (transcript migration.old.job (events_of lines.now))) }
+    ensures journal { OnOk result (migration.new.journal ≡ play (job_of migration.old.job) (events_of lines.now)) }
+    ensures written { OnOk result (TookMore (O.taken output.old) (O.taken output.new) (transcript (job_of migration.old.job) (events_of lines.now))) }
+    ensures front { OnErr result (TookFront (O.taken output.old) (O.taken output.new) (transcript (job_of migration.old.job) (events_of lines.now))) }
     ensures fault { IsErrOf result PlayError.WriteFault → CountRose (O.faults output.old) (O.faults output.new) }
     ensures counts { O.faults output.old ≤ O.faults output.new }
 {
@@ -49,26 +53,29 @@ pub fn play<O: Sink>(
     Ok(())
 }
 
-/// Steps a migration by one event, and writes what it answers.
+/// Steps a migration by one event, and writes what it answers, with what it read for its guest.
 fn play_event<O: Sink>(
     alloc: Global,
     migration: &mut Migration,
     event: Event,
     output: &mut O,
 ) -> Result<(), PlayError>
+    requires fit { fits (job_of migration.old.job) event ≡ true }
     requires built { is_built_event event ≡ true }
     requires early { is_guest event ≡ true → has_begin migration.old.journal ≡ false }
     ensures played { OnOk result (IsPlayed migration.old event migration.new (O.taken output.old) (O.taken output.new)) }
     ensures job { migration.new.job ≡ migration.old.job }
-    ensures front { OnErr result (TookFront (O.taken output.old) (O.taken output.new) (turn_line event (turn migration.old.job (view_of migration.old) event false) [])) }
+    ensures front { OnErr result (TookFront (O.taken output.old) (O.taken output.new) (line_played migration.old event)) }
     ensures fault { IsErrOf result PlayError.WriteFault → CountRose (O.faults output.old) (O.faults output.new) }
     ensures counts { O.faults output.old ≤ O.faults output.new }
 {
+    let before = migration.reads().len();
     let turn = migration.step(alloc, event);
     if is_no_memory(turn) {
         return Err(PlayError::NoMemory);
     }
-    match write_text(output, print_turn(event, turn, &[]).bytes()) {
+    let line = print_turn(event, turn, behind(migration.reads(), before));
+    match write_text(output, line.bytes()) {
         Ok(()) => Ok(()),
         Err(_) => Err(PlayError::WriteFault),
     }

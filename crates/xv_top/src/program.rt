@@ -2,17 +2,20 @@
 
 ghost use Rattle.std.specs.Prelude.{◌≡◌, ◌≢◌, ◌≤◌, ◌+◌, ◌⊎◌, ℕ, List, [], ◌∷◌, ◌++◌, length, map, IfSome, IfOk, OnOk, IsErrOf, OnErr, IsTrue, ◌↔◌, string_bytes};
 ghost use Rattle.xv_io.specs.Io.{CountRose, IsAtEnd, GaveAtLeast, TookMore, TookFront};
-ghost use Rattle.xv_model.specs.Job.{Job as JobRecord, IsGoodJob};
+ghost use Rattle.xv_base.specs.declared.text.LineFault.{LineFault as LineFaultRecord};
+ghost use Rattle.xv_job.specs.Written.{Written, job_of};
 ghost use Rattle.xv_job.specs.Built.{IsBuilt};
-ghost use Rattle.xv_script.specs.Lines.{IsBuiltScript};
+ghost use Rattle.xv_script.specs.Script.{IsScriptOf};
 ghost use Rattle.xv_script.specs.declared.line.Line.{Line as LineRecord};
 ghost use Rattle.xv_core.specs.Seen.{Seen};
-ghost use Rattle.xv_top.specs.Replay.{output_text, refused_words, refused_input};
-ghost use Rattle.xv_top.specs.Top.{input_limit, IsReplay, IsInput, IsNoInput, IsFrontFor, HasRun};
+ghost use Rattle.xv_top.specs.Replay.{output_text};
+ghost use Rattle.xv_top.specs.Refused.{input_limit, refused_words, refused_line};
+ghost use Rattle.xv_top.specs.Top.{IsReplay, IsInput, IsRefused, IsFrontFor, HasRun};
 
 use crate::input::{InputError, read_input};
 use crate::output::{write_out, write_result};
 use crate::playing::{PlayError, play};
+use crate::refusal::print_refusal;
 use std::alloc::Global;
 use xv_base::Status;
 use xv_core::Migration;
@@ -42,14 +45,14 @@ pub fn top<I: Source, O: Sink>(
 ) -> Status
     // Fine: the input is a job and a script, read to its end; the output is theirs, and `left` the migration that ran.
     ensures fine_reads { result ≡ Status.Fine → IsAtEnd (I.left input.new) }
-    ensures fine { result ≡ Status.Fine → (job : JobRecord) × ((lines : List LineRecord) × ((m : Seen) × (IfSome (I.left input.old) (λ bytes. IsInput bytes job lines) × (TookMore (O.taken output.old) (O.taken output.new) (output_text job lines) × (HasRun job lines m × (left.new ≡ Left.First m)))))) }
+    ensures fine { result ≡ Status.Fine → (written : Written) × ((lines : List LineRecord) × ((m : Seen) × (IfSome (I.left input.old) (λ bytes. IsInput bytes written lines) × (TookMore (O.taken output.old) (O.taken output.new) (output_text (job_of written) lines) × (HasRun written lines m × (left.new ≡ Left.First m)))))) }
 
     // BadWords: exactly where the words are not `replay`, unless the refusal cannot be written.
     ensures bad_words { result ≡ Status.BadWords → (IsReplay (map (λ w. string_bytes w) words.now) → ⊥) × TookMore (O.taken output.old) (O.taken output.new) refused_words }
     ensures words { (IsReplay (map (λ w. string_bytes w) words.now) → ⊥) → (result ≡ Status.BadWords) ⊎ (result ≡ Status.WriteFault) }
 
-    // BadInput: only where the input is not of the built form; it was read to its end or past its limit.
-    ensures bad_input { result ≡ Status.BadInput → IfSome (I.left input.old) IsNoInput × TookMore (O.taken output.old) (O.taken output.new) refused_input }
+    // BadInput: only where the input is refused, and so is what is written; it was read to its end or past its limit.
+    ensures bad_input { result ≡ Status.BadInput → (fault : LineFaultRecord) × (IfSome (I.left input.old) (λ bytes. IsRefused bytes fault) × TookMore (O.taken output.old) (O.taken output.new) (refused_line fault)) }
     ensures bad_input_reads { result ≡ Status.BadInput → IsAtEnd (I.left input.new) ⊎ GaveAtLeast (input_limit + 1) (I.left input.old) (I.left input.new) }
 
     // ReadFault and WriteFault: only where the count of the input or of the output rose.
@@ -72,8 +75,8 @@ pub fn top<I: Source, O: Sink>(
         Ok(found) => found,
         Err(InputError::ReadFault) => return Status::ReadFault,
         Err(InputError::NoMemory) => return Status::NoMemory,
-        Err(InputError::Refused) => {
-            return match write_out(output, b"refused line 0 unbuilt\n") {
+        Err(InputError::Refused(fault)) => {
+            return match write_out(output, print_refusal(fault).bytes()) {
                 Ok(()) => Status::BadInput,
                 Err(_) => Status::WriteFault,
             };
@@ -106,12 +109,11 @@ fn replay<O: Sink>(
     lines: &[Line],
     output: &mut O,
 ) -> Result<Migration, PlayError>
-    requires good { IsGoodJob job }
     requires job_built { IsBuilt job }
-    requires built { IsBuiltScript lines.now }
+    requires script { IsScriptOf (job_of job) lines.now }
     ensures ran { IfOk result (λ m. HasRun job lines.now m) }
-    ensures written { OnOk result (TookMore (O.taken output.old) (O.taken output.new) (output_text job lines.now)) }
-    ensures front { OnErr result (TookFront (O.taken output.old) (O.taken output.new) (output_text job lines.now)) }
+    ensures written { OnOk result (TookMore (O.taken output.old) (O.taken output.new) (output_text (job_of job) lines.now)) }
+    ensures front { OnErr result (TookFront (O.taken output.old) (O.taken output.new) (output_text (job_of job) lines.now)) }
     ensures fault { IsErrOf result PlayError.WriteFault → CountRose (O.faults output.old) (O.faults output.new) }
 {
     let mut migration = match Migration::start(alloc, job) {

@@ -3,7 +3,7 @@
 ghost use Rattle.std.specs.Prelude.{◌≡◌, true, false, None};
 ghost use Rattle.xv_model.specs.View.{all_copied, is_empty_set};
 ghost use Rattle.xv_model.specs.Wait.{wait, is_full};
-ghost use Rattle.xv_job.specs.BuiltEvents.{has_begin};
+ghost use Rattle.xv_job.specs.Written.{job_of};
 ghost use Rattle.xv_core.specs.Seen.{view_of, IsStep};
 ghost use Rattle.xv_base.specs.declared.event.Event.TheVariants.{Apply, Ack, Credit, Switch};
 
@@ -17,7 +17,7 @@ use xv_job::Job;
 
 impl Migration {
     pub(super) fn apply_waits(&self) -> Option<Why>
-        ensures { result ≡ wait self.now.job (view_of self.now) Apply false }
+        ensures { result ≡ wait (job_of self.now.job) (view_of self.now) Apply false }
     {
         let none = first_next(&self.held, &self.applied) == self.held.len();
         let empty = unless(none, Why::NothingThere, None);
@@ -25,7 +25,7 @@ impl Migration {
     }
 
     pub(super) fn ack_waits(&self) -> Option<Why>
-        ensures { result ≡ wait self.now.job (view_of self.now) Ack false }
+        ensures { result ≡ wait (job_of self.now.job) (view_of self.now) Ack false }
     {
         if !is_live(self.phase) {
             return Some(Why::NotNow);
@@ -37,7 +37,7 @@ impl Migration {
     }
 
     pub(super) fn credit_waits(&self) -> Option<Why>
-        ensures { result ≡ wait self.now.job (view_of self.now) Credit false }
+        ensures { result ≡ wait (job_of self.now.job) (view_of self.now) Credit false }
     {
         if !is_live(self.phase) {
             return Some(Why::NotNow);
@@ -49,7 +49,7 @@ impl Migration {
     }
 
     pub(super) fn switch_waits(&self) -> Option<Why>
-        ensures { result ≡ wait self.now.job (view_of self.now) Switch false }
+        ensures { result ≡ wait (job_of self.now.job) (view_of self.now) Switch false }
     {
         let owed = unless(self.credit < whole_credit(&self.job), Why::NotNow, None);
         let unsent = unless(!self.outbox.is_empty(), Why::NotNow, owed);
@@ -58,7 +58,7 @@ impl Migration {
     }
 
     pub(super) fn apply(&mut self) -> Turn
-        requires { wait self.old.job (view_of self.old) Apply false ≡ None }
+        requires { wait (job_of self.old.job) (view_of self.old) Apply false ≡ None }
         ensures { IsStep self.old Apply result self.new }
     {
         if self.journal.reserve(1).is_err() {
@@ -77,7 +77,7 @@ impl Migration {
     }
 
     pub(super) fn ack(&mut self) -> Turn
-        requires { wait self.old.job (view_of self.old) Ack false ≡ None }
+        requires { wait (job_of self.old.job) (view_of self.old) Ack false ≡ None }
         ensures { IsStep self.old Ack result self.new }
     {
         if self.journal.reserve(1).is_err() || self.acks.reserve(1).is_err() {
@@ -90,7 +90,7 @@ impl Migration {
     }
 
     pub(super) fn credit(&mut self) -> Turn
-        requires { wait self.old.job (view_of self.old) Credit false ≡ None }
+        requires { wait (job_of self.old.job) (view_of self.old) Credit false ≡ None }
         ensures { IsStep self.old Credit result self.new }
     {
         if self.journal.reserve(1).is_err() {
@@ -104,7 +104,7 @@ impl Migration {
     }
 
     pub(super) fn switch(&mut self) -> Turn
-        requires { wait self.old.job (view_of self.old) Switch false ≡ None }
+        requires { wait (job_of self.old.job) (view_of self.old) Switch false ≡ None }
         ensures { IsStep self.old Switch result self.new }
     {
         if self.journal.reserve(1).is_err() {

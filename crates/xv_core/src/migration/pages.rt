@@ -3,7 +3,7 @@
 ghost use Rattle.std.specs.Prelude.{◌≡◌, true, false, None};
 ghost use Rattle.xv_model.specs.View.{all_copied, is_empty_set};
 ghost use Rattle.xv_model.specs.Wait.{wait, is_full};
-ghost use Rattle.xv_job.specs.BuiltEvents.{has_begin};
+ghost use Rattle.xv_job.specs.Written.{job_of};
 ghost use Rattle.xv_core.specs.Seen.{view_of, IsStep};
 ghost use Rattle.xv_base.specs.declared.event.Event.TheVariants.{Round, Page, Stun};
 
@@ -16,7 +16,7 @@ use xv_job::Job;
 
 impl Migration {
     pub(super) fn round_waits(&self) -> Option<Why>
-        ensures { result ≡ wait self.now.job (view_of self.now) Round false }
+        ensures { result ≡ wait (job_of self.now.job) (view_of self.now) Round false }
     {
         let begun = unless(self.rounds != 0, Why::NotNow, None);
         let uncopied = unless(!self.is_copied(), Why::NotNow, begun);
@@ -25,7 +25,7 @@ impl Migration {
     }
 
     pub(super) fn page_waits(&self) -> Option<Why>
-        ensures { result ≡ wait self.now.job (view_of self.now) Page false }
+        ensures { result ≡ wait (job_of self.now.job) (view_of self.now) Page false }
     {
         let full = unless(self.is_full(), Why::Throttled, None);
         let sent = unless(self.is_round_sent(), Why::NothingThere, full);
@@ -33,7 +33,7 @@ impl Migration {
     }
 
     pub(super) fn stun_waits(&self) -> Option<Why>
-        ensures { result ≡ wait self.now.job (view_of self.now) Stun false }
+        ensures { result ≡ wait (job_of self.now.job) (view_of self.now) Stun false }
     {
         let first = unless(self.rounds == 0, Why::NotNow, None);
         let unsent = unless(!self.is_round_sent(), Why::NotNow, first);
@@ -49,7 +49,7 @@ impl Migration {
     }
 
     pub(super) fn round(&mut self) -> Turn
-        requires { wait self.old.job (view_of self.old) Round false ≡ None }
+        requires { wait (job_of self.old.job) (view_of self.old) Round false ≡ None }
         ensures { IsStep self.old Round result self.new }
     {
         if self.journal.reserve(1).is_err() {
@@ -62,7 +62,7 @@ impl Migration {
     }
 
     pub(super) fn page(&mut self, alloc: Global) -> Turn
-        requires { wait self.old.job (view_of self.old) Page false ≡ None }
+        requires { wait (job_of self.old.job) (view_of self.old) Page false ≡ None }
         ensures { IsStep self.old Page result self.new }
     {
         if self.journal.reserve(1).is_err() || self.outbox.reserve(1).is_err() {
@@ -79,7 +79,7 @@ impl Migration {
     }
 
     pub(super) fn stun(&mut self) -> Turn
-        requires { wait self.old.job (view_of self.old) Stun false ≡ None }
+        requires { wait (job_of self.old.job) (view_of self.old) Stun false ≡ None }
         ensures { IsStep self.old Stun result self.new }
     {
         if self.journal.reserve(1).is_err() {

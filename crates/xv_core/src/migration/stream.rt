@@ -3,7 +3,7 @@
 ghost use Rattle.std.specs.Prelude.{◌≡◌, true, false, None};
 ghost use Rattle.xv_model.specs.View.{all_copied, is_empty_set};
 ghost use Rattle.xv_model.specs.Wait.{wait, is_full};
-ghost use Rattle.xv_job.specs.BuiltEvents.{has_begin};
+ghost use Rattle.xv_job.specs.Written.{job_of};
 ghost use Rattle.xv_core.specs.Seen.{view_of, IsStep};
 ghost use Rattle.xv_base.specs.declared.event.Event.TheVariants.{Send, Deliver};
 
@@ -15,7 +15,7 @@ use xv_base::{Event, Turn, Why};
 
 impl Migration {
     pub(super) fn send_waits(&self) -> Option<Why>
-        ensures { result ≡ wait self.now.job (view_of self.now) (Send 0) false }
+        ensures { result ≡ wait (job_of self.now.job) (view_of self.now) (Send 0) false }
     {
         let spent = unless(self.credit == 0, Why::NoCredit, None);
         let empty = unless(self.outbox.is_empty(), Why::NothingThere, spent);
@@ -23,14 +23,14 @@ impl Migration {
     }
 
     pub(super) fn deliver_waits(&self) -> Option<Why>
-        ensures { result ≡ wait self.now.job (view_of self.now) (Deliver 0) false }
+        ensures { result ≡ wait (job_of self.now.job) (view_of self.now) (Deliver 0) false }
     {
         let empty = unless(self.stream.is_empty(), Why::NothingThere, None);
         unless(!is_live(self.phase), Why::NotNow, empty)
     }
 
     pub(super) fn send(&mut self) -> Turn
-        requires { wait self.old.job (view_of self.old) (Send 0) false ≡ None }
+        requires { wait (job_of self.old.job) (view_of self.old) (Send 0) false ≡ None }
         ensures { IsStep self.old (Send 0) result self.new }
     {
         if self.journal.reserve(1).is_err() || self.stream.reserve(1).is_err() {
@@ -42,7 +42,7 @@ impl Migration {
     }
 
     pub(super) fn deliver(&mut self) -> Turn
-        requires { wait self.old.job (view_of self.old) (Deliver 0) false ≡ None }
+        requires { wait (job_of self.old.job) (view_of self.old) (Deliver 0) false ≡ None }
         ensures { IsStep self.old (Deliver 0) result self.new }
     {
         if self.journal.reserve(1).is_err() || self.held.reserve(1).is_err() {

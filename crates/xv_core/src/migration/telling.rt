@@ -2,8 +2,9 @@
 
 ghost use Rattle.std.specs.Prelude.{◌≡◌, true, false, is_none, length};
 ghost use Rattle.xv_model.specs.Report.{totals as totals_of};
-ghost use Rattle.xv_model.specs.Wait.{wait};
+ghost use Rattle.xv_model.specs.Wait.{wait, fits};
 ghost use Rattle.xv_model.specs.Work.{is_finished, all_ended_from};
+ghost use Rattle.xv_job.specs.Written.{job_of};
 ghost use Rattle.xv_job.specs.BuiltEvents.{is_built_event, is_guest, has_begin};
 ghost use Rattle.xv_core.specs.Seen.{view_of, IsKept};
 
@@ -38,6 +39,14 @@ impl Migration {
         &self.journal
     }
 
+    /// The bytes that the guest has read, one read after another.
+    pub fn reads(&self) -> &[u8]
+        ensures exactly { result.now ≡ self.now.reads }
+        ensures kept { IsKept self.now }
+    {
+        &self.reads
+    }
+
     /// Where it stands.
     pub fn phase(&self) -> Phase
         ensures { result ≡ (view_of self.now).phase }
@@ -47,16 +56,17 @@ impl Migration {
 
     /// Whether it is over and every guest has done all.
     pub fn finished(&self) -> bool
-        ensures { result ≡ is_finished self.now.job (view_of self.now) }
+        ensures { result ≡ is_finished (job_of self.now.job) (view_of self.now) }
     {
         !is_live(self.phase) && has_ended(&self.job, &self.history)
     }
 
     /// Whether an event would happen: it would wait for nothing.
     pub fn can(&self, event: Event) -> bool
+        requires fit { fits (job_of self.now.job) event ≡ true }
         requires built { is_built_event event ≡ true }
         requires early { is_guest event ≡ true → has_begin self.now.journal ≡ false }
-        ensures { result ≡ is_none (wait self.now.job (view_of self.now) event false) }
+        ensures { result ≡ is_none (wait (job_of self.now.job) (view_of self.now) event false) }
     {
         self.waits(event).is_none()
     }
@@ -77,7 +87,7 @@ impl Migration {
 
     /// The numbers of the report.
     pub fn totals(&self) -> Totals
-        ensures exactly { result ≡ totals_of self.now.job (view_of self.now) (length self.now.journal) }
+        ensures exactly { result ≡ totals_of (job_of self.now.job) (view_of self.now) (length self.now.journal) }
         ensures kept { IsKept self.now }
     {
         let pages = layout_of(&self.job).pages();
@@ -87,7 +97,7 @@ impl Migration {
             faulted: self.history.faulted(),
             journal: self.journal.len() as u64,
             stun: self.stun,
-            copied: self.cursor,
+            copied: self.disks.cursors(),
             rounds: self.rounds,
             messages: sum_of(&self.issued),
             mirrors: mirrors_of(&self.issued, pages),
@@ -108,13 +118,14 @@ impl Migration {
 
 /// Whether every operation of the guest has ended.
 fn has_ended(job: &Job, history: &History) -> bool
-    ensures { result ≡ all_ended_from 0 job.now.traces history.now.entries }
+    requires { length job.now.traces ≡ 1 }
+    ensures { result ≡ all_ended_from 0 (job_of job.now).traces history.now.entries }
 {
-    job.traces[0].unit_ops() <= history.ended(GuestId(0))
+    job.operations() <= history.ended(GuestId(0))
 }
 
 /// The layout of the machine.
-fn layout_of(job: &Job) -> &Layout
+pub fn layout_of(job: &Job) -> &Layout
     ensures { result.now ≡ job.now.shape }
 {
     &job.layout

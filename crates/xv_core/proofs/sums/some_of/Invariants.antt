@@ -1,5 +1,5 @@
-use Rattle.std.proofs.Common.{◌≡◌, ◌≤◌, ◌<◌, ◌^◌, ℕ, take}
-use Rattle.std.specs.Prelude.{sum, count_by, nat_lt}
+use Rattle.std.proofs.Common.{◌≡◌, ◌<◌, ◌^◌, ℕ, take}
+use Rattle.std.specs.Prelude.{count_by, nat_lt}
 use Rattle.xv_core.proofs.sums.some_of.Given as goal
 
 abbrev pub invariant-loop-number : goal.invariant-loop-number

@@ -1,5 +1,4 @@
-use Rattle.std.proofs.Common.{◌≡◌, ap, ◌∙◌, List, [], ◌∷◌, ◌++◌, ℕ}
-use Rattle.xv_model.specs.Step.{Entry}
+use Rattle.std.proofs.Common.{ap, ◌∙◌, List, [], ◌∷◌, ◌++◌, ℕ}
 use Rattle.xv_base.specs.declared.event.Event.TheVariants.{Ack}
 use Rattle.xv_core.specs.Fields.{state_of}
 use Rattle.xv_core.proofs.Arrived.{entered, goes_on, ack-kept}

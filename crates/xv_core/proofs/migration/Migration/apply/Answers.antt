@@ -1,4 +1,4 @@
-use Rattle.std.proofs.Common.{◌≡◌, ap, sym, ◌∙◌, arith, List, ℕ}
+use Rattle.std.proofs.Common.{◌≡◌, ap, ◌∙◌, List, ℕ}
 use Rattle.std.specs.Prelude.{false, remove, set}
 use Rattle.xv_model.specs.Job.{units}
 use Rattle.xv_model.specs.View.{first_next}

@@ -1,4 +1,4 @@
-use Rattle.std.proofs.Common.{◌≡◌, ap, sym, ◌∙◌, List, [], ◌∷◌, ◌++◌, ℕ}
+use Rattle.std.proofs.Common.{◌≡◌, ap, sym, ◌∙◌, List, ℕ}
 use Rattle.xv_model.specs.View.{number}
 use Rattle.xv_model.specs.Effect.{note}
 use Rattle.xv_base.specs.declared.event.Event.TheVariants.{Credit}

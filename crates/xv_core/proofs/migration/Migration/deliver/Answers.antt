@@ -24,4 +24,4 @@ returns c =
     let goes = goes-from (state_of c.self.inside) c.args.self.now (Deliver 0) c.self.view_is c.requires in
     step-made (state_of c.self.inside) c.args.self.now _ (Deliver 0) c.recorded.result _ c.self.view_is c.recorded.ensures.answer refl c.requires
     (deliver-answer (state_of c.self.inside) c.moved-head.result c.self.invariant.0 goes c.moved-head.ensures.head)
-    (c.recorded.ensures.entry ∙ ap (λ x. x ++ record { event = Deliver 0; turn = c.recorded.result } ∷ []) c.reserve.ensures.items)
+    (c.recorded.ensures.entry ∙ ap (λ x. x ++ record { event = Deliver 0; turn = c.recorded.result } ∷ []) c.reserve.ensures.items) refl refl

@@ -3,4 +3,6 @@ use Rattle.xv_core.proofs.CopyWaits.{copied-test}
 use Rattle.xv_core.proofs.migration.Migration.is_copied.Goals as goal
 
 pub returns : goal.returns
-returns c = cc (copied-test (state_of c.self.inside) c.args.self.now c.block_count.result c.self.invariant.0 c.self.view_is c.block_count.ensures)
+returns c =
+    let t = copied-test (state_of c.self.inside) c.args.self.now c.self.invariant.0 c.self.view_is in
+    cc

@@ -1,4 +1,4 @@
-use Rattle.std.proofs.Common.{◌<◌, ◌+◌, ◌++◌, ◌∷◌, [], rules, arith, refl, ap, sym, subst, ◌∙◌}
+use Rattle.std.proofs.Common.{◌<◌, ◌+◌, ◌++◌, ◌∷◌, [], rules, refl, ap, sym, subst, ◌∙◌}
 use Rattle.xv_base.specs.Units.{Shape, units}
 use Rattle.xv_core.specs.Fields.{state_of}
 use Rattle.xv_core.proofs.Pages.{page-answer, page-state, page-fits, page-made, page-few}
@@ -43,4 +43,4 @@ returns c =
     let goes = goes-from (state_of c.self.inside) c.args.self.now Page c.self.view_is c.requires in
     step-made (state_of c.self.inside) c.args.self.now _ Page c.recorded.result _ c.self.view_is c.recorded.ensures.answer refl c.requires
     (page-answer (state_of c.self.inside) c.issue-version.result c.self.invariant.0 goes c.issue-version.ensures.version)
-    (c.recorded.ensures.entry ∙ ap (λ x. x ++ record { event = Page; turn = c.recorded.result } ∷ []) c.reserve.ensures.items)
+    (c.recorded.ensures.entry ∙ ap (λ x. x ++ record { event = Page; turn = c.recorded.result } ∷ []) c.reserve.ensures.items) refl refl

@@ -3,4 +3,6 @@ use Rattle.xv_core.proofs.CopyWaits.{read-wait}
 use Rattle.xv_core.proofs.migration.Migration.read_waits.Goals as goal
 
 pub returns : goal.returns
-returns c = cc (read-wait (state_of c.self.inside) c.args.self.now c.self.inside.blocks.len c.self.invariant.0 c.self.view_is c.self.inside.blocks.ok.0)
+returns c =
+    let w = read-wait (state_of c.self.inside) c.args.self.now c.args.disk c.disk-copy.result.now c.self.invariant.0 c.self.view_is c.disk-copy.ensures in
+    cc

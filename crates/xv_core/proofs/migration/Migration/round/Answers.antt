@@ -14,4 +14,4 @@ pub returns : goal.returns
 returns c =
     let goes = goes-from (state_of c.self.inside) c.args.self.now Round c.self.view_is c.requires in
     step-made (state_of c.self.inside) c.args.self.now _ Round c.recorded.result _ c.self.view_is c.recorded.ensures.answer refl c.requires
-    (round-answer (state_of c.self.inside) c.pages-count.result c.self.invariant.0 goes c.pages-count.ensures) (cc)
+    (round-answer (state_of c.self.inside) c.pages-count.result c.self.invariant.0 goes c.pages-count.ensures) (cc) refl refl

@@ -29,4 +29,4 @@ returns c =
     let goes = goes-from (state_of c.self.inside) c.args.self.now (Send 0) c.self.view_is c.requires in
     step-made (state_of c.self.inside) c.args.self.now _ (Send 0) c.recorded.result _ c.self.view_is c.recorded.ensures.answer refl c.requires
     (send-answer (state_of c.self.inside) c.moved-head.result c.self.invariant.0 goes c.moved-head.ensures.head)
-    (c.recorded.ensures.entry ∙ ap (λ x. x ++ record { event = Send 0; turn = c.recorded.result } ∷ []) c.reserve.ensures.items)
+    (c.recorded.ensures.entry ∙ ap (λ x. x ++ record { event = Send 0; turn = c.recorded.result } ∷ []) c.reserve.ensures.items) refl refl

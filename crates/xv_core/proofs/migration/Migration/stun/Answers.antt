@@ -14,4 +14,4 @@ pub returns : goal.returns
 returns c =
     let goes = goes-from (state_of c.self.inside) c.args.self.now Stun c.self.view_is c.requires in
     step-made (state_of c.self.inside) c.args.self.now _ Stun c.recorded.result _ c.self.view_is c.recorded.ensures.answer refl c.requires
-    (stun-answer (state_of c.self.inside) c.self.invariant.0 goes) (cc)
+    (stun-answer (state_of c.self.inside) c.self.invariant.0 goes) (cc) refl refl

@@ -1,0 +1,170 @@
+//! The text of a script, read.
+
+ghost use Rattle.std.specs.Prelude.{◌≡◌, ◌≢◌, ◌<◌, ◌+◌, ◌^◌, List, length, None, Some, IfOk, IfErr};
+ghost use Rattle.xv_text.specs.Lines.{whole_lines, fields};
+ghost use Rattle.xv_job.specs.Written.{job_of};
+ghost use Rattle.xv_script.specs.Words.{named, line_said};
+ghost use Rattle.xv_script.specs.Lines.{script_text};
+ghost use Rattle.xv_script.specs.Script.{counts_of, count_of, is_unbuilt, line_fault, line_in, begins, text_fault, text_lines, IsScriptOf, IfFault};
+ghost use Rattle.xv_script.specs.declared.line.Line.{Line as LineRecord};
+
+use crate::counts::{Counts, counts_of};
+use crate::line::Line;
+use crate::word::{Word, word_of};
+use std::alloc::Global;
+use xv_base::{Event, GuestId, LineFault, LineWhy, TextError, UnitId};
+use xv_job::Job;
+use xv_text::{first_field, next_line, read_fields};
+
+/// The lines of a script of a job, to its line `stop`, which ends the text. The first line of the text has the
+/// number `first_line`.
+/// Errors: the first faulty line, and the first reason why it is refused; want of memory.
+pub fn read_events(
+    alloc: Global,
+    job: &Job,
+    text: &[u8],
+    first_line: u32,
+) -> Result<Vec<Line>, TextError>
+    requires { first_line + length (whole_lines text.now) < 2 ^ 32 }
+    ensures fault { IfFault result (λ fault. text_fault (counts_of (job_of job.now)) first_line text.now ≡ Some fault) }
+    ensures no_fault { IfOk result (λ lines. text_fault (counts_of (job_of job.now)) first_line text.now ≡ None) }
+    ensures lines { IfOk result (λ lines. lines.items ≡ text_lines (counts_of (job_of job.now)) text.now) }
+    ensures text { IfOk result (λ lines. text.now ≡ script_text lines.items) }
+    ensures script { IfOk result (λ lines. IsScriptOf (job_of job.now) lines.items) }
+    ensures only { IfOk result (λ found. (lines : List LineRecord) → IsScriptOf (job_of job.now) lines → text.now ≡ script_text lines → found.items ≡ lines) }
+    ensures refused { IfFault result (λ fault. (lines : List LineRecord) → IsScriptOf (job_of job.now) lines → text.now ≢ script_text lines) }
+{
+    read_lines(alloc, counts_of(job), text, first_line)
+}
+
+/// The lines of a script where there are so many of what its lines name.
+pub(crate) fn read_lines(
+    alloc: Global,
+    counts: Counts,
+    text: &[u8],
+    first_line: u32,
+) -> Result<Vec<Line>, TextError>
+    requires { first_line + length (whole_lines text.now) < 2 ^ 32 }
+    ensures fault { IfFault result (λ fault. text_fault counts first_line text.now ≡ Some fault) }
+    ensures no_fault { IfOk result (λ lines. text_fault counts first_line text.now ≡ None) }
+    ensures lines { IfOk result (λ lines. lines.items ≡ text_lines counts text.now) }
+{
+    let mut lines = Vec::new(alloc);
+    let mut began = false;
+    let mut number = first_line;
+    let mut rest = text;
+    while let Some((line, more)) = next_line(rest) {
+        let found = match read_line(counts, began, line) {
+            Ok(found) => found,
+            Err(why) => return Err(fault(number, why)),
+        };
+        let Some(line) = found else {
+            return if more.is_empty() {
+                Ok(lines)
+            } else {
+                Err(fault(number + 1, LineWhy::Order))
+            };
+        };
+        let Ok(()) = lines.push(line) else {
+            return Err(TextError::NoMemory);
+        };
+        began |= begins(line);
+        number += 1;
+        rest = more;
+    }
+    Err(fault(number, LineWhy::Unended))
+}
+
+fn fault(line: u32, why: LineWhy) -> TextError
+    ensures { result ≡ TextError.Fault (record { line = line; why = why }) }
+{
+    TextError::Fault(LineFault { line, why })
+}
+
+/// What a line says; none where it is `stop`. The flag says that a region has begun before it.
+/// Errors: the first reason why the line is refused.
+fn read_line(counts: Counts, began: bool, line: &[u8]) -> Result<Option<Line>, LineWhy>
+    ensures no_fault { IfOk result (λ found. line_fault counts began (fields line.now) ≡ None) }
+    ensures line { IfOk result (λ found. line_in (fields line.now) ≡ found) }
+    ensures fault { IfErr result (λ why. line_fault counts began (fields line.now) ≡ Some why) }
+{
+    let (first, args) = first_field(line);
+    let Some(word) = word_of(first) else {
+        return Err(LineWhy::BadWord);
+    };
+    let row = match read_fields(word.named().kinds(), &args) {
+        Ok(row) => row,
+        Err(why) => return Err(why),
+    };
+    let n = row.number(0);
+    if n >= counts.of(word.named()) {
+        return Err(LineWhy::OutOfRange);
+    }
+    let said = line_said(counts, word, n);
+    if is_unbuilt(began, said) {
+        return Err(LineWhy::Unbuilt);
+    }
+    Ok(said)
+}
+
+/// The line that a word says with the number of something that is there; none where the script stops.
+fn line_said(counts: Counts, word: Word, n: u32) -> Option<Line>
+    requires { n < count_of counts (named word) }
+    ensures { result ≡ line_said word n }
+{
+    match word {
+        Word::Guest => Some(Line::Step(Event::Guest(GuestId(n as u8)))),
+        Word::Begin => Some(Line::Step(Event::Begin(n as u8))),
+        Word::Read => Some(Line::Step(Event::Read(n as u8))),
+        Word::Advance => Some(Line::Step(Event::Advance(n as u8))),
+        Word::Release => Some(Line::Step(Event::Release(n as u8))),
+        Word::Round => Some(Line::Step(Event::Round)),
+        Word::Page => Some(Line::Step(Event::Page)),
+        Word::Send => Some(Line::Step(Event::Send(n as u8))),
+        Word::Deliver => Some(Line::Step(Event::Deliver(n as u8))),
+        Word::Apply => Some(Line::Step(Event::Apply)),
+        Word::Ack => Some(Line::Step(Event::Ack)),
+        Word::Credit => Some(Line::Step(Event::Credit)),
+        Word::Stun => Some(Line::Step(Event::Stun)),
+        Word::Switch => Some(Line::Step(Event::Switch)),
+        Word::Cancel => Some(Line::Step(Event::Cancel)),
+        Word::Probe => Some(Line::Ask(UnitId(n))),
+        Word::Stop => None,
+    }
+}
+
+/// Whether a line is not built yet: a guest's event once a region has begun, a release, a cancel, and a unit that
+/// is asked for.
+fn is_unbuilt(began: bool, line: Option<Line>) -> bool
+    ensures { result ≡ is_unbuilt began line }
+{
+    match line {
+        None => false,
+        Some(Line::Ask(_)) => true,
+        Some(Line::Step(Event::Guest(_))) => began,
+        Some(Line::Step(Event::Release(_) | Event::Cancel)) => true,
+        Some(
+            Line::Step(
+                Event::Begin(_)
+                | Event::Read(_)
+                | Event::Advance(_)
+                | Event::Round
+                | Event::Page
+                | Event::Send(_)
+                | Event::Deliver(_)
+                | Event::Apply
+                | Event::Ack
+                | Event::Credit
+                | Event::Stun
+                | Event::Switch,
+            ),
+        ) => false,
+    }
+}
+
+/// Whether a region begins by the line.
+fn begins(line: Line) -> bool
+    ensures { result ≡ begins line }
+{
+    matches!(line, Line::Step(Event::Begin(_)))
+}

@@ -1,0 +1,62 @@
+-- An input is refused as its job, or behind it as its script.
+use Rattle.std.proofs.Common.{◌≡◌, ℕ, ◌+◌, ◌<◌, ◌≤◌, Bool, true, false, List, [], ◌∷◌, ◌++◌, length, length-append, drop, ◌==◌, Option, Some, None, refl, sym, ap, ◌∙◌, subst, arith, if◌then◌else◌}
+use Rattle.std.specs.Prelude.{nat_lt}
+use Rattle.std.proofs.Math.Seq.{drop-append_seam}
+use Rattle.std.proofs.lemmas.List.{length-map}
+use Rattle.xv_base.specs.declared.text.LineWhy.TheVariants.{Limit}
+use Rattle.xv_base.specs.declared.text.LineFault.{LineFault}
+use Rattle.xv_text.specs.Lines.{lines_of, has_rest, whole_lines, before_first, fields}
+use Rattle.xv_text.specs.Reading.{first_fault, last_state, line_count}
+use Rattle.xv_job.specs.Written.{Written, job_of}
+use Rattle.xv_job.specs.Draft.{first_draft}
+use Rattle.xv_job.specs.Built.{built_reader}
+use Rattle.xv_job.specs.JobText.{job_lines}
+use Rattle.xv_script.specs.Script.{first_script, script_reader, counts_of, text_fault}
+use Rattle.xv_top.specs.Refused.{input_limit, input_fault, lines_fault, fault_or, job_said, job_length, script_lines}
+
+-- a test of an order, where it is known
+pub lt-is : (m n : ℕ) → m < n → nat_lt m n ≡ true
+lt-is m n h = grind (arith, nat_lt)
+
+pub lt-is_not : (m n : ℕ) → n ≤ m → nat_lt m n ≡ false
+lt-is_not m n h = grind (arith, nat_lt)
+
+pub long-input : (bytes : List ℕ) → input_limit < length bytes → input_fault bytes ≡ Some (record { line = 0; why = Limit 1 })
+long-input bytes more = rw (lt-is input_limit (length bytes) more) refl
+
+pub short-input : (bytes : List ℕ) → length bytes ≤ input_limit → input_fault bytes ≡ lines_fault (lines_of bytes) (has_rest bytes)
+short-input bytes within = rw (lt-is_not input_limit (length bytes) within) refl
+
+-- a fault of the job is the input's
+pub fault-of_job : (bytes : List ℕ) (fault : LineFault) → length bytes ≤ input_limit → first_fault built_reader false first_draft 1 (lines_of bytes) (has_rest bytes) ≡ Some fault → input_fault bytes ≡ Some fault
+fault-of_job bytes fault within is = short-input bytes within ∙ rw is refl
+
+-- where the job has none, the fault of what stands behind it is the input's
+pub fault-behind_job : (bytes behind : List ℕ) (w : Written) → length bytes ≤ input_limit → first_fault built_reader false first_draft 1 (lines_of bytes) (has_rest bytes) ≡ None → job_said (lines_of bytes) ≡ w → job_length (lines_of bytes) ≡ length (job_lines w) → lines_of bytes ≡ job_lines w ++ lines_of behind → has_rest bytes ≡ has_rest behind → input_fault bytes ≡ text_fault (counts_of (job_of w)) (length (job_lines w) + 1) behind
+fault-behind_job bytes behind w within none said long parts rest =
+    let cut : script_lines (lines_of bytes) ≡ lines_of behind =
+    ap (λ n. drop n (lines_of bytes)) long ∙ (ap (λ (ls : List (List (List ℕ))). drop (length (job_lines w)) ls) parts ∙ drop-append_seam (job_lines w) (lines_of behind)) in
+    short-input bytes within
+    ∙ (ap (λ (f : Option LineFault). fault_or f (first_fault (script_reader (job_of (job_said (lines_of bytes)))) true first_script (job_length (lines_of bytes) + 1) (script_lines (lines_of bytes)) (has_rest bytes))) none
+    ∙ (ap (λ (x : Written). first_fault (script_reader (job_of x)) true first_script (job_length (lines_of bytes) + 1) (script_lines (lines_of bytes)) (has_rest bytes)) said
+    ∙ (ap (λ (n : ℕ). first_fault (script_reader (job_of w)) true first_script (n + 1) (script_lines (lines_of bytes)) (has_rest bytes)) long
+    ∙ (ap (λ (ls : List (List (List ℕ))). first_fault (script_reader (job_of w)) true first_script (length (job_lines w) + 1) ls (has_rest bytes)) cut
+    ∙ ap (λ (r : Bool). first_fault (script_reader (job_of w)) true first_script (length (job_lines w) + 1) (lines_of behind) r) rest))))
+
+-- a text has no more lines than bytes
+before-length : (b : ℕ) (items : List (List ℕ)) → length (before_first b items) ≡ length items
+before-length b [] = refl
+before-length b (item ∷ items) = refl
+
+lines-more : (b : ℕ) (text : List ℕ) (feed : Bool) → (b == 10) ≡ feed → length (whole_lines (b ∷ text)) ≤ length (whole_lines text) + 1
+lines-more b text true is = rw is (omega arith)
+lines-more b text false is = rw is (omega (arith, before-length b (whole_lines text)))
+
+pub lines-within : (text : List ℕ) → length (whole_lines text) ≤ length text
+lines-within [] = omega arith
+lines-within (b ∷ text) = omega (arith, lines-more b text (b == 10) refl, lines-within text)
+
+-- the lines of a job and of what stands behind it are no more than the text's bytes
+pub lines-behind : (text behind : List ℕ) (w : Written) → lines_of text ≡ job_lines w ++ lines_of behind → length (job_lines w) + length (whole_lines behind) ≤ length text
+lines-behind text behind w parts =
+    omega (arith, lines-within text, length-map (whole_lines text) fields, length-map (whole_lines behind) fields, ap (λ (ls : List (List (List ℕ))). length ls) parts, length-append (job_lines w) (lines_of behind))
