@@ -13,3 +13,5 @@ mod refusal;
 
 pub use program::{Left, top};
 
+#[cfg(test)]
+mod tests;

@@ -1,0 +1,179 @@
+//! What no clause says: that the program answers otherwise than by want of memory, and what it writes.
+
+ghost use Rattle.std.specs.Prelude.{◌<◌};
+
+use super::*;
+use std::alloc::{AllocError, Global};
+use std::test::Fail;
+use xv_io::{MemSink, MemSource};
+
+const JOB: &[u8] =
+    b"job 1\npages 1 16\ndisk 2 16\nstreams 1\ncredit 4\noutbox 4\nregion 1\nrounds 1\ndirty 0\nguest\nend\n";
+
+const EMPTY: &[u8] =
+    b"job 1\npages 1 16\ndisk 2 16\nstreams 1\ncredit 4\noutbox 4\nregion 1\nrounds 1\ndirty 0\nguest\nend\nstop\n";
+
+const BEGUN: &[u8] =
+    b"job 1\npages 1 16\ndisk 2 16\nstreams 1\ncredit 4\noutbox 4\nregion 1\nrounds 1\ndirty 0\nguest\nend\nbegin 0\nstop\n";
+
+const LATE: &[u8] =
+    b"job 1\npages 1 16\ndisk 2 16\nstreams 1\ncredit 4\noutbox 4\nregion 1\nrounds 1\ndirty 0\nguest\nwr 0 1 1 aa\nend\nbegin 0\nguest 0\nstop\n";
+
+const READ: &[u8] =
+    b"job 1\npages 1 16\ndisk 2 16\ndisk 1 32\nstreams 1\ncredit 4\noutbox 4\nregion 1\nrounds 1\ndirty 0\ninit 1 5a\nguest\nrd 0 0 2 3\nwr 1 0 1 0102\nend\nguest 0\nguest 0\nguest 0\nstop\n";
+
+const READ_OUT: &[u8] =
+    b"guest 0 read 5a5a5a\nguest 0 done\nguest 0 wait trace-end\nphase running\nowner source\nhistory 2\nfaulted 0\njournal 2\nstun none\ncopied 0\nrounds 0\nmessages 0\nmirrors 0\napplied 0\ncredit 4\nsrc 1 5a5a5a5a5a5a5a5a5a5a5a5a5a5a5a5a\nsrc 3 0102010201020102010201020102010201020102010201020102010201020102\n";
+
+const REPORT: &[u8] =
+    b"phase running\nowner source\nhistory 0\nfaulted 0\njournal 0\nstun none\ncopied 0\nrounds 0\nmessages 0\nmirrors 0\napplied 0\ncredit 4\n";
+
+struct Case {
+    name: &'static str,
+    words: &'static [&'static str],
+    input: &'static [u8],
+    /// The calls of the source that fail.
+    fails: &'static [u32],
+    room: u32,
+    status: u8,
+    output: &'static [u8],
+}
+
+const CASES: &[Case] = &[
+    Case {
+        name: "an empty script",
+        words: &["replay"],
+        input: EMPTY,
+        fails: &[],
+        room: 500,
+        status: 0,
+        output: REPORT,
+    },
+    Case {
+        name: "no words",
+        words: &[],
+        input: EMPTY,
+        fails: &[],
+        room: 500,
+        status: 1,
+        output: b"refused words\n",
+    },
+    Case {
+        name: "an option",
+        words: &["replay", "-x"],
+        input: EMPTY,
+        fails: &[],
+        room: 500,
+        status: 1,
+        output: b"refused words\n",
+    },
+    Case {
+        name: "no script",
+        words: &["replay"],
+        input: JOB,
+        fails: &[],
+        room: 500,
+        status: 2,
+        output: b"refused line 12 unended\n",
+    },
+    Case {
+        name: "a guest after the copy began",
+        words: &["replay"],
+        input: LATE,
+        fails: &[],
+        room: 500,
+        status: 2,
+        output: b"refused line 14 unbuilt\n",
+    },
+    Case {
+        name: "a number with a leading zero",
+        words: &["replay"],
+        input: b"job 1\npages 1 16\ndisk 2 16\nstreams 1\ncredit 04\noutbox 4\n",
+        fails: &[],
+        room: 500,
+        status: 2,
+        output: b"refused line 5 bad-number\n",
+    },
+    Case {
+        name: "a region above the outbox",
+        words: &["replay"],
+        input: b"job 1\npages 1 16\nstreams 1\ncredit 4\noutbox 4\nregion 5\n",
+        fails: &[],
+        room: 500,
+        status: 2,
+        output: b"refused line 6 limit 11\n",
+    },
+    Case {
+        name: "a read, and a write of another disk",
+        words: &["replay"],
+        input: READ,
+        fails: &[],
+        room: 500,
+        status: 0,
+        output: READ_OUT,
+    },
+    Case {
+        name: "a second read that fails",
+        words: &["replay"],
+        input: EMPTY,
+        fails: &[2],
+        room: 500,
+        status: 3,
+        output: b"",
+    },
+    Case {
+        name: "a first read that fails",
+        words: &["replay"],
+        input: EMPTY,
+        fails: &[1],
+        room: 500,
+        status: 3,
+        output: b"",
+    },
+    Case {
+        name: "room for five bytes",
+        words: &["replay"],
+        input: BEGUN,
+        fails: &[],
+        room: 5,
+        status: 4,
+        output: b"begin",
+    },
+    Case {
+        name: "no room for a refusal",
+        words: &["replay"],
+        input: JOB,
+        fails: &[],
+        room: 0,
+        status: 4,
+        output: b"",
+    },
+];
+
+/// The status of a run, and what it wrote; the source gives one byte a read.
+fn outcome(alloc: Global, case: &Case) -> Result<(u8, Vec<u8>), AllocError> {
+    let mut words = Vec::new(alloc);
+    for word in case.words {
+        words.push(String::from_str(alloc, word)?)?;
+    }
+    let Ok(mut source) = MemSource::new(alloc, case.input, 1, case.fails) else {
+        return Err(AllocError);
+    };
+    let Ok(mut sink) = MemSink::new(alloc, case.room, 64, &[]) else {
+        return Err(AllocError);
+    };
+    let mut left = Left::Nothing;
+    let status = top(alloc, &words, &mut source, &mut sink, &mut left);
+    Ok((status.code(), sink.bytes().to_vec(alloc)?))
+}
+
+#[test]
+fn answers_as_the_input_says(rt: HostRuntime) -> Result<(), Fail> {
+    for case in CASES {
+        let (status, output) = outcome(rt.alloc(), case)?;
+        let name = case.name;
+        assert_eq!(rt; status, case.status, "{name}");
+        assert_eq!(rt; output.as_slice(), case.output, "{name}");
+    }
+    Ok(())
+}
