@@ -8,7 +8,7 @@ use std::marker::Model;
 use xv_base::{Ended, GuestId, NoMemory, Outcome};
 
 /// How many guests a `GuestId` can name.
-const GUESTS: usize = 256;
+pub(crate) const GUESTS: usize = 256;
 
 /// The ended unit operations in the order in which they ended, at most as many as there is room for.
 #[derive(Drop)]

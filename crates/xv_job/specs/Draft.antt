@@ -1,5 +1,6 @@
 -- A job as far as its lines have been read; what is wrong with a line, and the draft after it.
 use Rattle.std.specs.Prelude.{ℕ, ◌+◌, ◌-◌, ◌*◌, ◌^◌, ◌==◌, ◌&&◌, ◌||◌, nat_lt, nat_le, not, Bool, true, false, List, [], ◌∷◌, ◌++◌, length, get_or, take, drop, sum_by, codes, Option, Some, None, if◌then◌else◌}
+use Rattle.std.specs.List.{list_any}
 use Rattle.xv_base.specs.declared.text.LineWhy.{LineWhy}
 use Rattle.xv_base.specs.declared.text.LineWhy.TheVariants.{BadWord, Order, Limit, OutOfRange, TooMany}
 use Rattle.xv_base.specs.declared.limits.Config.{Config}
@@ -17,8 +18,10 @@ use Rattle.xv_trace.specs.declared.op.Verb.{Verb}
 use Rattle.xv_trace.specs.declared.op.Op.{Op}
 use Rattle.xv_trace.specs.Operations.{op_fault, op_count, count_all}
 use Rattle.xv_trace.specs.OpText.{is_word, kinds_of, op_of, head, tail}
-use Rattle.xv_job.specs.Written.{Written}
-use Rattle.xv_job.specs.Words.{word_of, rank, may_come, kinds}
+use Rattle.xv_job.specs.Written.{Written, fault_number}
+use Rattle.xv_job.specs.Words.{word_of, rank, may_come, kinds, call_of, call_kinds}
+use Rattle.xv_job.specs.declared.word.Call.{Call}
+use Rattle.xv_job.specs.declared.word.Call.TheVariants.{SourceRead as SourceReadCall, SourceWrite as SourceWriteCall, DestRead as DestReadCall, DestWrite as DestWriteCall, Flush as FlushCall, Put as PutCall, Take as TakeCall, AckPut as AckPutCall, AckTake as AckTakeCall}
 use Rattle.xv_job.specs.declared.word.Word.{Word}
 use Rattle.xv_job.specs.declared.word.Word.TheVariants.{Job as JobWord, Pages, Disk, Streams, Credit, Outbox, Region, Rounds, Dirty, Group, Cancel, Fault as FaultWord, Init as InitWord, Guest, Operation, End}
 
@@ -44,40 +47,21 @@ first_draft = record {
 abbrev pub is_in_traces : Draft → Bool
 is_in_traces d = d.last == 14
 
--- the calls that may be planned to fail: what follows each, and the fault that it says
-abbrev pub has_stream : List ℕ → Bool
-has_stream what = is_word (codes "put") what || is_word (codes "take") what
+-- the fault that a call's numbers say
+abbrev pub fault_of : Call → Values → Fault
+fault_of SourceReadCall v = SourceRead (number_at v 0)
+fault_of SourceWriteCall v = SourceWrite (number_at v 0)
+fault_of DestReadCall v = DestRead (number_at v 0)
+fault_of DestWriteCall v = DestWrite (number_at v 0)
+fault_of FlushCall v = Flush (number_at v 0)
+fault_of PutCall v = Put (number_at v 0) (number_at v 1)
+fault_of TakeCall v = Take (number_at v 0) (number_at v 1)
+fault_of AckPutCall v = AckPut (number_at v 0)
+fault_of AckTakeCall v = AckTake (number_at v 0)
 
-abbrev pub is_what : List ℕ → Bool
-is_what what =
-    is_word (codes "sread") what || is_word (codes "swrite") what || is_word (codes "dread") what || is_word (codes "dwrite") what
-    || is_word (codes "flush") what || is_word (codes "ackput") what || is_word (codes "acktake") what || has_stream what
-
-abbrev pub fault_kinds : List ℕ → List Kind
-fault_kinds what = if has_stream what then Number ∷ Number ∷ [] else Number ∷ []
-
-abbrev pub fault_said : List ℕ → Values → Fault
-fault_said what v =
-    if is_word (codes "sread") what then SourceRead (number_at v 0)
-    else (if is_word (codes "swrite") what then SourceWrite (number_at v 0)
-    else (if is_word (codes "dread") what then DestRead (number_at v 0)
-    else (if is_word (codes "dwrite") what then DestWrite (number_at v 0)
-    else (if is_word (codes "flush") what then Flush (number_at v 0)
-    else (if is_word (codes "put") what then Put (number_at v 0) (number_at v 1)
-    else (if is_word (codes "take") what then Take (number_at v 0) (number_at v 1)
-    else (if is_word (codes "ackput") what then AckPut (number_at v 0)
-    else AckTake (number_at v 0))))))))
-
-abbrev pub fault_number : Fault → ℕ
-fault_number (SourceRead k) = k
-fault_number (SourceWrite k) = k
-fault_number (DestRead k) = k
-fault_number (DestWrite k) = k
-fault_number (Flush k) = k
-fault_number (Put s k) = k
-fault_number (Take s k) = k
-fault_number (AckPut k) = k
-fault_number (AckTake k) = k
+abbrev pub faults_said : Option Call → List (List ℕ) → List Fault
+faults_said None args = []
+faults_said (Some call) args = fault_of call (values (call_kinds call) args) ∷ []
 
 abbrev pub is_stream_of : ℕ → Fault → Bool
 is_stream_of streams (SourceRead k) = true
@@ -96,8 +80,9 @@ abbrev pub format_fault : List (List ℕ) → Option LineWhy
 format_fault args =
     fault_if (not (length args == 1 && (is_word (codes "1") (head args) || is_word (codes "2") (head args)))) BadWord
 
-abbrev pub planned_fault : List (List ℕ) → Option LineWhy
-planned_fault args = or_else (fault_if (not (is_what (head args))) BadWord) (fields_fault (fault_kinds (head args)) (tail args))
+abbrev pub planned_fault : Option Call → List (List ℕ) → Option LineWhy
+planned_fault None args = Some BadWord
+planned_fault (Some call) args = fields_fault (call_kinds call) args
 
 abbrev pub args_fault : Word → List (List ℕ) → Option LineWhy
 args_fault JobWord args = format_fault args
@@ -111,7 +96,7 @@ args_fault Rounds args = fields_fault (kinds Rounds) args
 args_fault Dirty args = fields_fault (kinds Dirty) args
 args_fault Group args = fields_fault (kinds Group) args
 args_fault Cancel args = fields_fault (kinds Cancel) args
-args_fault FaultWord args = planned_fault args
+args_fault FaultWord args = planned_fault (call_of (head args)) (tail args)
 args_fault InitWord args = fields_fault (kinds InitWord) args
 args_fault Guest args = fields_fault (kinds Guest) args
 args_fault (Operation verb) args = fields_fault (kinds_of verb) args
@@ -157,10 +142,50 @@ disk_fault w blocks size =
 abbrev pub region_fault : Written → ℕ → Option LineWhy
 region_fault w n = or_else (outside 11 1 256 n) (fault_if (nat_lt w.config.outbox n) (Limit 11))
 
-abbrev pub plan_fault : Written → Fault → Option LineWhy
-plan_fault w fault =
+-- the lines of one number, and what is wrong with it
+abbrev pub is_limit : Word → Bool
+is_limit JobWord = false
+is_limit Pages = false
+is_limit Disk = false
+is_limit Streams = true
+is_limit Credit = true
+is_limit Outbox = true
+is_limit Region = true
+is_limit Rounds = true
+is_limit Dirty = true
+is_limit Group = true
+is_limit Cancel = true
+is_limit FaultWord = false
+is_limit InitWord = false
+is_limit Guest = false
+is_limit (Operation verb) = false
+is_limit End = false
+
+abbrev pub limit_fault : Written → Word → ℕ → Option LineWhy
+limit_fault w JobWord n = None
+limit_fault w Pages n = None
+limit_fault w Disk n = None
+limit_fault w Streams n = outside 8 1 8 n
+limit_fault w Credit n = outside 9 1 1024 n
+limit_fault w Outbox n = outside 10 1 1024 n
+limit_fault w Region n = region_fault w n
+limit_fault w Rounds n = outside 12 1 64 n
+limit_fault w Dirty n = outside 13 0 (2 ^ 20) n
+limit_fault w Group n = outside 18 1 16 n
+limit_fault w Cancel n = None
+limit_fault w FaultWord n = None
+limit_fault w InitWord n = None
+limit_fault w Guest n = None
+limit_fault w (Operation verb) n = None
+limit_fault w End n = None
+
+abbrev pub has_bad_number : ℕ → Fault → Bool
+has_bad_number streams fault = fault_number fault == 0 || not (is_stream_of streams fault)
+
+abbrev pub plan_fault : Written → List Fault → Option LineWhy
+plan_fault w planned =
     or_else (fault_if (nat_le 32 (length w.faults)) (Limit 15))
-    (fault_if (fault_number fault == 0 || not (is_stream_of w.config.streams fault)) (Limit 16))
+    (fault_if (list_any (has_bad_number w.config.streams) planned) (Limit 16))
 
 abbrev pub init_fault : Written → ℕ → Option LineWhy
 init_fault w unit = or_else (fault_if (nat_le (units w.shape) unit) OutOfRange) (fault_if (nat_lt unit (after_last w.init)) Order)
@@ -176,15 +201,15 @@ abbrev pub numbers_fault : Written → Word → List (List ℕ) → Option LineW
 numbers_fault w JobWord args = None
 numbers_fault w Pages args = pages_fault w (number_at (values (kinds Pages) args) 0) (number_at (values (kinds Pages) args) 1)
 numbers_fault w Disk args = disk_fault w (number_at (values (kinds Disk) args) 0) (number_at (values (kinds Disk) args) 1)
-numbers_fault w Streams args = outside 8 1 8 (number_at (values (kinds Streams) args) 0)
-numbers_fault w Credit args = outside 9 1 1024 (number_at (values (kinds Credit) args) 0)
-numbers_fault w Outbox args = outside 10 1 1024 (number_at (values (kinds Outbox) args) 0)
-numbers_fault w Region args = region_fault w (number_at (values (kinds Region) args) 0)
-numbers_fault w Rounds args = outside 12 1 64 (number_at (values (kinds Rounds) args) 0)
-numbers_fault w Dirty args = outside 13 0 (2 ^ 20) (number_at (values (kinds Dirty) args) 0)
-numbers_fault w Group args = outside 18 1 16 (number_at (values (kinds Group) args) 0)
-numbers_fault w Cancel args = None
-numbers_fault w FaultWord args = plan_fault w (fault_said (head args) (values (fault_kinds (head args)) (tail args)))
+numbers_fault w Streams args = limit_fault w Streams (number_at (values (kinds Streams) args) 0)
+numbers_fault w Credit args = limit_fault w Credit (number_at (values (kinds Credit) args) 0)
+numbers_fault w Outbox args = limit_fault w Outbox (number_at (values (kinds Outbox) args) 0)
+numbers_fault w Region args = limit_fault w Region (number_at (values (kinds Region) args) 0)
+numbers_fault w Rounds args = limit_fault w Rounds (number_at (values (kinds Rounds) args) 0)
+numbers_fault w Dirty args = limit_fault w Dirty (number_at (values (kinds Dirty) args) 0)
+numbers_fault w Group args = limit_fault w Group (number_at (values (kinds Group) args) 0)
+numbers_fault w Cancel args = limit_fault w Cancel (number_at (values (kinds Cancel) args) 0)
+numbers_fault w FaultWord args = plan_fault w (faults_said (call_of (head args)) (tail args))
 numbers_fault w InitWord args = init_fault w (number_at (values (kinds InitWord) args) 0)
 numbers_fault w Guest args = fault_if (nat_le 16 (length w.traces)) (Limit 17)
 numbers_fault w (Operation verb) args = operation_fault w (op_of verb (values (kinds_of verb) args))
@@ -212,22 +237,37 @@ with_limit Guest n c = c
 with_limit (Operation verb) n c = c
 with_limit End n c = c
 
-abbrev pub limit_said : Written → Word → List (List ℕ) → Written
-limit_said w word args = record w { config = with_limit word (number_at (values (kinds word) args) 0) w.config }
+abbrev pub with_number : Written → Word → ℕ → Written
+with_number w JobWord n = w
+with_number w Pages n = w
+with_number w Disk n = w
+with_number w Streams n = record w { config = with_limit Streams n w.config }
+with_number w Credit n = record w { config = with_limit Credit n w.config }
+with_number w Outbox n = record w { config = with_limit Outbox n w.config }
+with_number w Region n = record w { config = with_limit Region n w.config }
+with_number w Rounds n = record w { config = with_limit Rounds n w.config }
+with_number w Dirty n = record w { config = with_limit Dirty n w.config }
+with_number w Group n = record w { group = n }
+with_number w Cancel n = record w { config = with_limit Cancel n w.config }
+with_number w FaultWord n = w
+with_number w InitWord n = w
+with_number w Guest n = w
+with_number w (Operation verb) n = w
+with_number w End n = w
 
 abbrev pub said : Written → Word → List (List ℕ) → Written
 said w JobWord args = record w { format = if is_word (codes "2") (head args) then 2 else 1 }
 said w Pages args = record w { shape = with_pages w.shape (number_at (values (kinds Pages) args) 0) (number_at (values (kinds Pages) args) 1) }
 said w Disk args = record w { shape = with_disk w.shape (number_at (values (kinds Disk) args) 0) (number_at (values (kinds Disk) args) 1) }
-said w Streams args = limit_said w Streams args
-said w Credit args = limit_said w Credit args
-said w Outbox args = limit_said w Outbox args
-said w Region args = limit_said w Region args
-said w Rounds args = limit_said w Rounds args
-said w Dirty args = limit_said w Dirty args
-said w Group args = record w { group = number_at (values (kinds Group) args) 0 }
-said w Cancel args = limit_said w Cancel args
-said w FaultWord args = record w { faults = w.faults ++ fault_said (head args) (values (fault_kinds (head args)) (tail args)) ∷ [] }
+said w Streams args = with_number w Streams (number_at (values (kinds Streams) args) 0)
+said w Credit args = with_number w Credit (number_at (values (kinds Credit) args) 0)
+said w Outbox args = with_number w Outbox (number_at (values (kinds Outbox) args) 0)
+said w Region args = with_number w Region (number_at (values (kinds Region) args) 0)
+said w Rounds args = with_number w Rounds (number_at (values (kinds Rounds) args) 0)
+said w Dirty args = with_number w Dirty (number_at (values (kinds Dirty) args) 0)
+said w Group args = with_number w Group (number_at (values (kinds Group) args) 0)
+said w Cancel args = with_number w Cancel (number_at (values (kinds Cancel) args) 0)
+said w FaultWord args = record w { faults = w.faults ++ faults_said (call_of (head args)) (tail args) }
 said w InitWord args = record w { init = w.init ++ record { unit = record { 0 = number_at (values (kinds InitWord) args) 0 }; pattern = (values (kinds InitWord) args).pattern } ∷ [] }
 said w Guest args = record w { traces = w.traces ++ [] ∷ [] }
 said w (Operation verb) args = record w { traces = with_op w.traces (op_of verb (values (kinds_of verb) args)) }

@@ -16,8 +16,11 @@ use Rattle.xv_job.specs.Written.{Written}
 abbrev pub disk_fields : DiskShape → List (List ℕ)
 disk_fields disk = codes "disk" ∷ decimal disk.blocks ∷ decimal disk.block_size ∷ []
 
+abbrev pub group_line : ℕ → ℕ → List (List (List ℕ))
+group_line format group = if format == 2 then (codes "group" ∷ decimal group ∷ []) ∷ [] else []
+
 abbrev pub group_lines : Written → List (List (List ℕ))
-group_lines w = if w.format == 2 then (codes "group" ∷ decimal w.group ∷ []) ∷ [] else []
+group_lines w = group_line w.format w.group
 
 abbrev pub cancel_lines : Option ℕ → List (List (List ℕ))
 cancel_lines None = []

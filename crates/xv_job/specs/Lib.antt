@@ -4,3 +4,5 @@ pub mod Draft
 pub mod JobText
 pub mod Built
 pub mod BuiltEvents
+pub mod Held
+pub mod Texts

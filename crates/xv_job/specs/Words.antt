@@ -5,6 +5,8 @@ use Rattle.xv_text.specs.declared.row.Kind.TheVariants.{Number, Bytes}
 use Rattle.xv_trace.specs.declared.op.Verb.{Verb}
 use Rattle.xv_trace.specs.OpText.{is_word, verb_of, kinds_of}
 use Rattle.xv_job.specs.declared.word.Word.{Word}
+use Rattle.xv_job.specs.declared.word.Call.{Call}
+use Rattle.xv_job.specs.declared.word.Call.TheVariants.{SourceRead, SourceWrite, DestRead, DestWrite, Flush, Put, Take, AckPut, AckTake}
 use Rattle.xv_job.specs.declared.word.Word.TheVariants.{Job, Pages, Disk, Streams, Credit, Outbox, Region, Rounds, Dirty, Group, Cancel, Fault, Init, Guest, Operation, End}
 
 -- the words of a job's own lines; those of operations are known behind the first guest
@@ -110,3 +112,47 @@ kinds Init = Number ∷ Bytes ∷ []
 kinds Guest = []
 kinds (Operation verb) = kinds_of verb
 kinds End = []
+
+-- the words of the calls that may be planned to fail, and what follows each
+abbrev pub call_of : List ℕ → Option Call
+call_of word =
+    if is_word (codes "sread") word then Some SourceRead
+    else (if is_word (codes "swrite") word then Some SourceWrite
+    else (if is_word (codes "dread") word then Some DestRead
+    else (if is_word (codes "dwrite") word then Some DestWrite
+    else (if is_word (codes "flush") word then Some Flush
+    else (if is_word (codes "put") word then Some Put
+    else (if is_word (codes "take") word then Some Take
+    else (if is_word (codes "ackput") word then Some AckPut
+    else (if is_word (codes "acktake") word then Some AckTake
+    else None))))))))
+
+abbrev pub call_kinds : Call → List Kind
+call_kinds SourceRead = Number ∷ []
+call_kinds SourceWrite = Number ∷ []
+call_kinds DestRead = Number ∷ []
+call_kinds DestWrite = Number ∷ []
+call_kinds Flush = Number ∷ []
+call_kinds Put = Number ∷ Number ∷ []
+call_kinds Take = Number ∷ Number ∷ []
+call_kinds AckPut = Number ∷ []
+call_kinds AckTake = Number ∷ []
+
+-- whether a word is an operation's
+abbrev pub is_operation : Word → Bool
+is_operation Job = false
+is_operation Pages = false
+is_operation Disk = false
+is_operation Streams = false
+is_operation Credit = false
+is_operation Outbox = false
+is_operation Region = false
+is_operation Rounds = false
+is_operation Dirty = false
+is_operation Group = false
+is_operation Cancel = false
+is_operation Fault = false
+is_operation Init = false
+is_operation Guest = false
+is_operation (Operation verb) = true
+is_operation End = false

@@ -2,6 +2,19 @@
 
 #![tactic(auto)]
 
+mod contents;
+mod held;
+mod job;
+mod line;
+mod limits;
+mod machine;
+mod planned;
+mod print;
+mod reading;
+mod traces;
 mod word;
 
-pub use word::Word;
+pub use job::Job;
+pub use print::print_job;
+pub use reading::{Place, read_job};
+pub use word::{Call, Word};

@@ -14,11 +14,12 @@ use Rattle.xv_text.specs.Fields.{fields_fault, fault_if}
 use Rattle.xv_text.specs.Reading.{first_fault, last_state, at_line_or}
 use Rattle.xv_text.proofs.Rows.{none_of_both}
 use Rattle.xv_text.proofs.Apart.{ArePlainLines, lines_of-text_of, has_rest-text_of, text_of-lines_of}
+use Rattle.xv_trace.specs.OpText.{IfFault}
 use Rattle.xv_model.specs.Job.{Job}
 use Rattle.xv_job.specs.BuiltEvents.{is_built_event, is_guest, is_begin, are_built}
 use Rattle.xv_script.specs.Lines.{line_words, script_text, events_of}
 use Rattle.xv_script.specs.Words.{spelling, word_of, named, kinds, line_said}
-use Rattle.xv_script.specs.Script.{first_script, counts_of, count_of, number_said, range_fault, is_unbuilt, word_fault, line_fault, line_by, line_in, with_line, script_reader, text_fault, text_lines, is_in, is_step, IsScriptOf, IfFault}
+use Rattle.xv_script.specs.Script.{first_script, counts_of, count_of, number_said, range_fault, is_unbuilt, word_fault, line_fault, line_by, line_in, with_line, script_reader, text_fault, text_lines, is_in, is_step, IsScriptOf}
 use Rattle.xv_script.specs.declared.counts.Counts.{Counts}
 use Rattle.xv_script.specs.declared.line.Line.{Line}
 use Rattle.xv_script.specs.declared.line.Line.TheVariants.{Step, Ask}

@@ -1,9 +1,7 @@
 -- A script as far as its lines have been read; what is wrong with a line, and the script after it.
-use Rattle.std.specs.Prelude.{◌≡◌, ℕ, ◌&&◌, ◌||◌, not, nat_le, nat_lt, Bool, true, false, List, [], ◌∷◌, ◌++◌, length, Option, Some, None, Result, Ok, Err}
+use Rattle.std.specs.Prelude.{◌≡◌, ℕ, ◌&&◌, ◌||◌, not, nat_le, nat_lt, Bool, true, false, List, [], ◌∷◌, ◌++◌, length, Option, Some, None}
 use Rattle.std.specs.List.{list_all}
 use Rattle.xv_base.specs.declared.text.LineFault.{LineFault}
-use Rattle.xv_base.specs.declared.text.TextError.{TextError}
-use Rattle.xv_base.specs.declared.text.TextError.TheVariants.{Fault, NoMemory}
 use Rattle.xv_base.specs.declared.text.LineWhy.{LineWhy}
 use Rattle.xv_base.specs.declared.text.LineWhy.TheVariants.{BadWord, OutOfRange, Unbuilt}
 use Rattle.xv_text.specs.Lines.{lines_of, has_rest}
@@ -122,9 +120,3 @@ pub record IsScriptOf (job : Job) (lines : List Line) : Type 0 where
   pub in_job : list_all (is_in job) lines ≡ true
   pub steps : list_all is_step lines ≡ true
   pub built : are_built false (events_of lines) ≡ true
-
--- a fact of the fault of a text that is not read
-abbrev pub IfFault : {A : Type 0} → Result A TextError → (LineFault → Type 0) → Type 0
-IfFault (Ok value) P = Unit {0}
-IfFault (Err (Fault fault)) P = P fault
-IfFault (Err NoMemory) P = Unit {0}

@@ -2,10 +2,11 @@
 
 ghost use Rattle.std.specs.Prelude.{◌≡◌, ◌≢◌, ◌<◌, ◌+◌, ◌^◌, List, length, None, Some, IfOk, IfErr};
 ghost use Rattle.xv_text.specs.Lines.{whole_lines, fields};
+ghost use Rattle.xv_trace.specs.OpText.{IfFault};
 ghost use Rattle.xv_job.specs.Written.{job_of};
 ghost use Rattle.xv_script.specs.Words.{named, line_said};
 ghost use Rattle.xv_script.specs.Lines.{script_text};
-ghost use Rattle.xv_script.specs.Script.{counts_of, count_of, is_unbuilt, line_fault, line_in, begins, text_fault, text_lines, IsScriptOf, IfFault};
+ghost use Rattle.xv_script.specs.Script.{counts_of, count_of, is_unbuilt, line_fault, line_in, begins, text_fault, text_lines, IsScriptOf};
 ghost use Rattle.xv_script.specs.declared.line.Line.{Line as LineRecord};
 
 use crate::counts::{Counts, counts_of};

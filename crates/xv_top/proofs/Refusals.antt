@@ -9,8 +9,12 @@ use Rattle.xv_text.specs.Lines.{lines_of, has_rest, whole_lines, before_first, f
 use Rattle.xv_text.specs.Reading.{first_fault, last_state, line_count}
 use Rattle.xv_job.specs.Written.{Written, job_of}
 use Rattle.xv_job.specs.Draft.{first_draft}
-use Rattle.xv_job.specs.Built.{built_reader}
-use Rattle.xv_job.specs.JobText.{job_lines}
+use Rattle.xv_job.specs.Built.{reader_of}
+use Rattle.xv_job.specs.Built.{IsBuilt}
+use Rattle.xv_job.specs.Written.{IsGoodWritten}
+use Rattle.xv_job.specs.Texts.{text_fault as job_text_fault}
+use Rattle.xv_job.proofs.Texts.{job_read, job_is_said, lines_are, rest_is}
+use Rattle.xv_job.specs.JobText.{job_lines, job_text}
 use Rattle.xv_script.specs.Script.{first_script, script_reader, counts_of, text_fault}
 use Rattle.xv_top.specs.Refused.{input_limit, input_fault, lines_fault, fault_or, job_said, job_length, script_lines}
 
@@ -28,12 +32,12 @@ pub short-input : (bytes : List ℕ) → length bytes ≤ input_limit → input_
 short-input bytes within = rw (lt-is_not input_limit (length bytes) within) refl
 
 -- a fault of the job is the input's
-pub fault-of_job : (bytes : List ℕ) (fault : LineFault) → length bytes ≤ input_limit → first_fault built_reader false first_draft 1 (lines_of bytes) (has_rest bytes) ≡ Some fault → input_fault bytes ≡ Some fault
+pub fault-of_job : (bytes : List ℕ) (fault : LineFault) → length bytes ≤ input_limit → job_text_fault true bytes ≡ Some fault → input_fault bytes ≡ Some fault
 fault-of_job bytes fault within is = short-input bytes within ∙ rw is refl
 
 -- where the job has none, the fault of what stands behind it is the input's
-pub fault-behind_job : (bytes behind : List ℕ) (w : Written) → length bytes ≤ input_limit → first_fault built_reader false first_draft 1 (lines_of bytes) (has_rest bytes) ≡ None → job_said (lines_of bytes) ≡ w → job_length (lines_of bytes) ≡ length (job_lines w) → lines_of bytes ≡ job_lines w ++ lines_of behind → has_rest bytes ≡ has_rest behind → input_fault bytes ≡ text_fault (counts_of (job_of w)) (length (job_lines w) + 1) behind
-fault-behind_job bytes behind w within none said long parts rest =
+pub fault-behind : (bytes behind : List ℕ) (w : Written) → length bytes ≤ input_limit → job_text_fault true bytes ≡ None → job_said (lines_of bytes) ≡ w → job_length (lines_of bytes) ≡ length (job_lines w) → lines_of bytes ≡ job_lines w ++ lines_of behind → has_rest bytes ≡ has_rest behind → input_fault bytes ≡ text_fault (counts_of (job_of w)) (length (job_lines w) + 1) behind
+fault-behind bytes behind w within none said long parts rest =
     let cut : script_lines (lines_of bytes) ≡ lines_of behind =
     ap (λ n. drop n (lines_of bytes)) long ∙ (ap (λ (ls : List (List (List ℕ))). drop (length (job_lines w)) ls) parts ∙ drop-append_seam (job_lines w) (lines_of behind)) in
     short-input bytes within
@@ -42,6 +46,13 @@ fault-behind_job bytes behind w within none said long parts rest =
     ∙ (ap (λ (n : ℕ). first_fault (script_reader (job_of w)) true first_script (n + 1) (script_lines (lines_of bytes)) (has_rest bytes)) long
     ∙ (ap (λ (ls : List (List (List ℕ))). first_fault (script_reader (job_of w)) true first_script (length (job_lines w) + 1) ls (has_rest bytes)) cut
     ∙ ap (λ (r : Bool). first_fault (script_reader (job_of w)) true first_script (length (job_lines w) + 1) (lines_of behind) r) rest))))
+
+pub fault-behind_job : (bytes behind : List ℕ) (w : Written) → length bytes ≤ input_limit → job_text_fault true bytes ≡ None → IsGoodWritten w → IsBuilt w → bytes ≡ job_text w ++ behind → input_fault bytes ≡ text_fault (counts_of (job_of w)) (length (job_lines w) + 1) behind
+fault-behind_job bytes behind w within none good built is =
+    let parts = lines_are w behind bytes good is in
+    let read = job_read true w behind bytes good (λ _. built) is in
+    fault-behind bytes behind w within none (job_is_said true w behind bytes good (λ _. built) is)
+    (ap (λ (ls : List (List (List ℕ))). job_length ls) parts ∙ read.count) parts (rest_is w behind bytes is)
 
 -- a text has no more lines than bytes
 before-length : (b : ℕ) (items : List (List ℕ)) → length (before_first b items) ≡ length items

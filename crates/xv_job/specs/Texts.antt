@@ -1,0 +1,24 @@
+-- A text that begins with a job: how it is refused, and what it says.
+use Rattle.std.specs.Prelude.{◌≡◌, ◌≤◌, ℕ, ◌+◌, Bool, false, List, length, take, ◌++◌, Option, None, Result, Ok, Err}
+use Rattle.xv_base.specs.declared.text.LineFault.{LineFault}
+use Rattle.xv_base.specs.declared.text.TextError.{TextError}
+use Rattle.xv_base.specs.declared.text.TextError.TheVariants.{Fault, NoMemory}
+use Rattle.xv_text.specs.Lines.{lines_of, has_rest}
+use Rattle.xv_text.specs.Reading.{first_fault, last_state}
+use Rattle.xv_job.specs.Draft.{first_draft}
+use Rattle.xv_job.specs.Built.{reader_of}
+use Rattle.xv_job.specs.JobText.{job_lines, job_text}
+use Rattle.xv_job.specs.Written.{Written, IsGoodWritten}
+
+-- the first fault of the job at the front of a text, and the job that its lines say
+abbrev pub text_fault : Bool → List ℕ → Option LineFault
+text_fault built text = first_fault (reader_of built) false first_draft 1 (lines_of text) (has_rest text)
+
+abbrev pub job_said : Bool → List ℕ → Written
+job_said built text = (last_state (reader_of built) first_draft (lines_of text)).job
+
+-- P of what is read: it is read without a fault, and want of memory is free
+abbrev pub UnlessNoMemory : {A : Type 0} → Result A TextError → (A → Type 0) → Type 0
+UnlessNoMemory (Ok found) P = P found
+UnlessNoMemory (Err NoMemory) P = Unit {0}
+UnlessNoMemory (Err (Fault fault)) P = ⊥

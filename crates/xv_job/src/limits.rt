@@ -1,0 +1,132 @@
+//! The lines of one number: the limits, the group and the cancel number.
+
+ghost use Rattle.std.specs.Prelude.{◌≡◌, ◌≤◌, ◌<◌, ◌^◌, Bool, Some, None, true, IfOk, IfErr, OnOk};
+ghost use Rattle.xv_text.specs.Fields.{values, number_at};
+ghost use Rattle.xv_job.specs.Words.{kinds};
+ghost use Rattle.xv_job.specs.Draft.{outside, limit_fault, with_number, is_limit};
+ghost use Rattle.xv_job.specs.Built.{is_unbuilt_number};
+ghost use Rattle.xv_job.specs.Held.{job_held, IsConsistent, IsTaken, Stops, behind_fault};
+
+use crate::held::{Held, Stop};
+use crate::word::Word;
+use xv_base::LineWhy;
+use xv_text::{Fields, Kind, read_fields};
+
+/// What is wrong with a number that is to be from `least` to `most`.
+fn outside(limit: u8, least: u32, most: u32, n: u32) -> Option<LineWhy>
+    ensures { result ≡ outside limit least most n }
+{
+    if n < least || n > most {
+        Some(LineWhy::Limit(limit))
+    } else {
+        None
+    }
+}
+
+impl Held {
+    /// What is wrong with the number of a limit.
+    fn limit_fault(&self, word: Word, n: u32) -> Option<LineWhy>
+        ensures { result ≡ limit_fault (job_held self.now) word n }
+    {
+        match word {
+            Word::Streams => outside(8, 1, 8, n),
+            Word::Credit => outside(9, 1, 1024, n),
+            Word::Outbox => outside(10, 1, 1024, n),
+            Word::Region => {
+                if n > self.config.outbox {
+                    Some(LineWhy::Limit(11))
+                } else {
+                    outside(11, 1, 256, n)
+                }
+            }
+            Word::Rounds => outside(12, 1, 64, n),
+            Word::Dirty => outside(13, 0, 1 << 20, n),
+            Word::Group => outside(18, 1, 16, n),
+            Word::Job
+            | Word::Pages
+            | Word::Disk
+            | Word::Cancel
+            | Word::Fault
+            | Word::Init
+            | Word::Guest
+            | Word::Operation(_)
+            | Word::End => None,
+        }
+    }
+
+    /// Sets the number of a limit.
+    fn set_limit(&mut self, word: Word, n: u32)
+        requires consistent { IsConsistent self.old }
+        requires fits { limit_fault (job_held self.old) word n ≡ None }
+        ensures is { job_held self.new ≡ with_number (job_held self.old) word n }
+        ensures consistent { IsConsistent self.new }
+        ensures last { self.new.last ≡ self.old.last }
+    {
+        match word {
+            Word::Streams => self.config.streams = n as u8,
+            Word::Credit => self.config.credit = n,
+            Word::Outbox => self.config.outbox = n,
+            Word::Region => self.config.region = n,
+            Word::Rounds => self.config.rounds = n,
+            Word::Dirty => self.config.dirty = n,
+            Word::Group => self.group = n,
+            Word::Cancel => self.config.cancel = Some(n),
+            Word::Job
+            | Word::Pages
+            | Word::Disk
+            | Word::Fault
+            | Word::Init
+            | Word::Guest
+            | Word::Operation(_)
+            | Word::End => {}
+        }
+    }
+
+    /// Reads the number of a limit.
+    pub(crate) fn take_limit(
+        &mut self,
+        word: Word,
+        args: &Fields,
+        built: bool,
+    ) -> Result<(), Stop>
+        requires consistent { IsConsistent self.old }
+        requires limit { is_limit word ≡ true }
+        ensures taken { OnOk result (IsTaken built word args.now self.old self.new) }
+        ensures stopped { IfErr result (Stops (behind_fault built (job_held self.old) word args.now)) }
+    {
+        let row = match read_fields(&[Kind::Number], args) {
+            Ok(row) => row,
+            Err(why) => return Err(Stop::Refused(why)),
+        };
+        let n = row.number(0);
+        if let Some(why) = self.limit_fault(word, n) {
+            return Err(Stop::Refused(why));
+        }
+        if built && is_unbuilt(word, n) {
+            return Err(Stop::Refused(LineWhy::Unbuilt));
+        }
+        self.set_limit(word, n);
+        Ok(())
+    }
+}
+
+/// Whether the number of a limit says what is not built.
+fn is_unbuilt(word: Word, n: u32) -> bool
+    ensures { result ≡ is_unbuilt_number word n }
+{
+    match word {
+        Word::Streams | Word::Region | Word::Rounds => n > 1,
+        Word::Dirty => n > 0,
+        Word::Group | Word::Cancel => true,
+        Word::Job
+        | Word::Pages
+        | Word::Disk
+        | Word::Credit
+        | Word::Outbox
+        | Word::Fault
+        | Word::Init
+        | Word::Guest
+        | Word::Operation(_)
+        | Word::End => false,
+    }
+}

@@ -1,0 +1,164 @@
+//! The lines of the job format, the pages and the disks.
+
+ghost use Rattle.std.specs.Prelude.{◌≡◌, ◌≤◌, ◌<◌, ◌^◌, ◌++◌, Bool, [], ◌∷◌, length, Some, None, IfOk, IfErr, OnOk, IfSome, IfNone, if◌then◌else◌, codes};
+ghost use Rattle.xv_base.specs.Units.{shape_of};
+ghost use Rattle.xv_base.specs.Layout.{IsGood, layout_fault};
+ghost use Rattle.xv_base.specs.declared.text.LineWhy.TheVariants.{BadWord};
+ghost use Rattle.xv_text.specs.Fields.{or_else};
+ghost use Rattle.xv_trace.specs.OpText.{is_word, head};
+ghost use Rattle.xv_job.specs.declared.word.Word.TheVariants.{Job as JobWord, Pages, Disk};
+ghost use Rattle.xv_job.specs.Draft.{format_fault, outside, size_fault, shape_fault, with_disk};
+ghost use Rattle.xv_job.specs.Held.{job_held, draft_held, shape_or_none, IsConsistent, IsTaken, Stops, behind_fault, limit_of};
+
+use crate::held::{Held, Stop};
+use crate::word::is_word;
+use xv_base::{DiskShape, Layout, LayoutFault, LineWhy};
+use xv_text::{Fields, Kind, read_fields};
+
+/// The job format that the fields say; none where they say none.
+fn format_of(args: &Fields) -> Option<u8>
+    ensures good { IfSome result (λ format. format_fault args.now ≡ None) }
+    ensures is { IfSome result (λ format. format ≡ (if is_word (codes "2") (head args.now) then 2 else 1)) }
+    ensures bad { IfNone result (format_fault args.now ≡ Some BadWord) }
+{
+    let Some((field, rest)) = args.split_first() else {
+        return None;
+    };
+    if !rest.is_done() {
+        return None;
+    }
+    if is_word(b"2", field) {
+        Some(2)
+    } else if is_word(b"1", field) {
+        Some(1)
+    } else {
+        None
+    }
+}
+
+/// The limit that a layout's fault is of.
+fn limit_of(fault: LayoutFault) -> LineWhy
+    ensures { result ≡ limit_of fault }
+{
+    match fault {
+        LayoutFault::NoPage => LineWhy::Limit(2),
+        LayoutFault::BadSize(_) => LineWhy::Limit(3),
+        LayoutFault::TooManyUnits => LineWhy::Limit(6),
+        LayoutFault::TooManyBytes => LineWhy::Limit(7),
+    }
+}
+
+/// The layout of these pages, without a disk.
+fn pages_of(pages: u32, size: u32) -> Result<Layout, LineWhy>
+    ensures is { IfOk result (λ layout. layout ≡ shape_of pages size []) }
+    ensures good { IfOk result (λ layout. or_else (outside 2 1 (2 ^ 20) pages) (or_else (size_fault size) (shape_fault (shape_of pages size []))) ≡ None) }
+    ensures bad { IfErr result (λ why. or_else (outside 2 1 (2 ^ 20) pages) (or_else (size_fault size) (shape_fault (shape_of pages size []))) ≡ Some why) }
+{
+    if pages < 1 || pages > 1 << 20 {
+        return Err(LineWhy::Limit(2));
+    }
+    match Layout::new(pages, size, &[]) {
+        Ok(layout) => Ok(layout),
+        Err(fault) => Err(limit_of(fault)),
+    }
+}
+
+impl Held {
+    /// Reads the job format.
+    pub(crate) fn take_format(&mut self, args: &Fields, built: bool) -> Result<(), Stop>
+        requires consistent { IsConsistent self.old }
+        ensures taken { OnOk result (IsTaken built JobWord args.now self.old self.new) }
+        ensures stopped { IfErr result (Stops (behind_fault built (job_held self.old) JobWord args.now)) }
+    {
+        let Some(format) = format_of(args) else {
+            return Err(Stop::Refused(LineWhy::BadWord));
+        };
+        if built && format == 2 {
+            return Err(Stop::Refused(LineWhy::Unbuilt));
+        }
+        self.format = format;
+        Ok(())
+    }
+
+    /// Reads the pages.
+    pub(crate) fn take_pages(&mut self, args: &Fields, built: bool) -> Result<(), Stop>
+        requires consistent { IsConsistent self.old }
+        requires no_disks { self.old.disks.items ≡ [] }
+        requires no_traces { self.old.traces.items ≡ [] }
+        ensures taken { OnOk result (IsTaken built Pages args.now self.old self.new) }
+        ensures stopped { IfErr result (Stops (behind_fault built (job_held self.old) Pages args.now)) }
+    {
+        let row = match read_fields(&[Kind::Number, Kind::Number], args) {
+            Ok(row) => row,
+            Err(why) => return Err(Stop::Refused(why)),
+        };
+        let layout = match pages_of(row.number(0), row.number(1)) {
+            Ok(layout) => layout,
+            Err(why) => return Err(Stop::Refused(why)),
+        };
+        self.layout = Some(layout);
+        Ok(())
+    }
+
+    /// Reads a disk.
+    pub(crate) fn take_disk(&mut self, args: &Fields) -> Result<(), Stop>
+        requires consistent { IsConsistent self.old }
+        requires machine { IsGood (job_held self.old).shape }
+        requires no_traces { self.old.traces.items ≡ [] }
+        ensures taken { (built : Bool) → OnOk result (IsTaken built Disk args.now self.old self.new) }
+        ensures stopped { (built : Bool) → IfErr result (Stops (behind_fault built (job_held self.old) Disk args.now)) }
+    {
+        let row = match read_fields(&[Kind::Number, Kind::Number], args) {
+            Ok(row) => row,
+            Err(why) => return Err(Stop::Refused(why)),
+        };
+        if self.disks.len() >= 4 {
+            return Err(Stop::Refused(LineWhy::Limit(4)));
+        }
+        let blocks = row.number(0);
+        let block_size = row.number(1);
+        if blocks < 1 || blocks > 1 << 20 {
+            return Err(Stop::Refused(LineWhy::Limit(5)));
+        }
+        let layout = known(&self.layout);
+        let disk = DiskShape { blocks, block_size };
+        match self.disks.push(disk) {
+            Ok(()) => {}
+            Err(_) => return Err(Stop::NoMemory),
+        }
+        match with_disk(&layout, disk, &self.disks) {
+            Ok(layout) => {
+                self.layout = Some(layout);
+                Ok(())
+            }
+            Err(why) => Err(Stop::Refused(why)),
+        }
+    }
+}
+
+/// The layout, which is known.
+pub(crate) fn known(layout: &Option<Layout>) -> Layout
+    requires { IsGood (shape_or_none layout.now) }
+    ensures is { result ≡ shape_or_none layout.now }
+    ensures some { layout.now ≡ Some result }
+{
+    match layout {
+        Some(layout) => *layout,
+        None => unreachable!(),
+    }
+}
+
+/// The layout with this disk more, the last of all its disks.
+fn with_disk(layout: &Layout, disk: DiskShape, disks: &[DiskShape]) -> Result<Layout, LineWhy>
+    requires good { IsGood layout.now }
+    requires more { disks.now ≡ layout.now.disks ++ disk ∷ [] }
+    requires few { length disks.now ≤ 4 }
+    ensures is { IfOk result (λ next. next ≡ with_disk layout.now disk.blocks disk.block_size) }
+    ensures good { IfOk result (λ next. or_else (size_fault disk.block_size) (shape_fault (with_disk layout.now disk.blocks disk.block_size)) ≡ None) }
+    ensures bad { IfErr result (λ why. or_else (size_fault disk.block_size) (shape_fault (with_disk layout.now disk.blocks disk.block_size)) ≡ Some why) }
+{
+    match Layout::new(layout.pages(), layout.page_size(), disks) {
+        Ok(layout) => Ok(layout),
+        Err(fault) => Err(limit_of(fault)),
+    }
+}
