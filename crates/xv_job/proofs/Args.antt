@@ -1,22 +1,22 @@
 -- What fields of each kind say, and how they are written.
-use Rattle.std.proofs.Common.{◌≡◌, ℕ, ◌<◌, ◌^◌, List, [], ◌∷◌, length, codes, decimal, Option, Some, None, true, false, Bool, if◌then◌else◌, refl, sym, ap, ◌∙◌, arith}
+use Rattle.std.proofs.Common.{◌≡◌, ℕ, ◌<◌, ◌^◌, List, [], ◌∷◌, length, codes, decimal, Some, None, true, false, Bool, if◌then◌else◌, refl, sym, ap, ◌∙◌, arith}
 use Rattle.std.proofs.lemmas.Fmt.{decimal_nonempty}
 use Rattle.xv_base.specs.declared.text.LineWhy.{LineWhy}
 use Rattle.xv_base.specs.declared.text.LineWhy.TheVariants.{BadNumber, BadHex}
 use Rattle.xv_base.specs.Hex.{hex}
 use Rattle.xv_base.specs.Units.{Shape}
-use Rattle.xv_text.proofs.Rows.{AreOfKinds, fields_parts, fields_from, values_row}
+use Rattle.xv_text.proofs.Rows.{fields_parts, fields_from, values_row}
 use Rattle.xv_text.proofs.Spelled.{spelled-values}
 use Rattle.xv_text.proofs.Numbers.{number_decimal, number_below, number-decimal, decimal_number}
 use Rattle.xv_text.proofs.HexFields.{bytes_hex, bytes_pattern, hex_bytes-hex, hex-is_hex}
 use Rattle.xv_job.proofs.Parts.{neither}
 use Rattle.xv_text.specs.declared.row.Kind.TheVariants.{Number, Bytes}
-use Rattle.xv_text.specs.Fields.{Values, values, number_at, number, is_number, is_hex, is_empty, field_fault, or_else, fields_fault, IsPattern}
+use Rattle.xv_text.specs.Fields.{values, number_at, number, is_number, is_hex, is_empty, field_fault, or_else, fields_fault, IsPattern}
 use Rattle.xv_trace.specs.declared.op.Op.{Op}
 use Rattle.xv_trace.specs.declared.op.Verb.{Verb}
 use Rattle.xv_trace.specs.declared.op.Verb.TheVariants.{Store as StoreVerb, Load as LoadVerb, Write as WriteVerb, Fetch as FetchVerb}
 use Rattle.xv_trace.specs.declared.op.Op.TheVariants.{Store, Load, Write, Fetch}
-use Rattle.xv_trace.specs.OpText.{kinds_of, op_of, op_fields, CanBeSaid, IsGoodOp, verb_of, head, tail}
+use Rattle.xv_trace.specs.OpText.{kinds_of, op_of, op_fields, CanBeSaid, IsGoodOp, tail}
 use Rattle.xv_trace.proofs.OpLines.{verb_word, verb_parts, op_said-op_fields, op_line_fault-op_fields}
 
 -- one field

@@ -1,40 +1,39 @@
 -- A text without a fault is the text of the job that its last state has, which is good.
-use Rattle.std.proofs.Common.{◌≡◌, ℕ, suc, zero, ◌+◌, ◌-◌, ◌*◌, ◌^◌, ◌<◌, ◌≤◌, ◌==◌, ◌&&◌, ◌||◌, Bool, true, false, not, List, [], ◌∷◌, ◌++◌, length, map, take, Option, Some, None, IfSome, sum_by, nat_lt, nat_le, get_or, codes, decimal, refl, sym, ap, ◌∙◌, subst, arith, rules, append_assoc, if◌then◌else◌, inl, inr, ◌⊎◌, add-one, one-add}
-use Rattle.std.specs.List.{AllByRecursion, list_all, flat_map}
-use Rattle.std.proofs.lemmas.List.{append-nil, length-append, length-map, get_or-map}
-use Rattle.std.proofs.lemmas.Bool.{cases_lt, and_parts}
+use Rattle.std.proofs.Common.{◌≡◌, ℕ, suc, zero, ◌+◌, ◌^◌, ◌<◌, ◌≤◌, ◌==◌, Bool, true, false, List, [], ◌∷◌, ◌++◌, length, map, take, Option, Some, None, IfSome, get_or, codes, decimal, refl, sym, ap, ◌∙◌, subst, arith, append_assoc, if◌then◌else◌, inl, inr, ◌⊎◌, add-one}
+use Rattle.std.specs.List.{AllByRecursion, flat_map}
+use Rattle.std.proofs.lemmas.List.{append-nil, length-map}
+use Rattle.std.proofs.lemmas.Bool.{cases_lt}
 use Rattle.std.proofs.lemmas.Bool.Decides.{nat_tests}
 use Rattle.xv_base.specs.declared.unit.DiskShape.{DiskShape}
 use Rattle.xv_base.specs.declared.text.LineWhy.{LineWhy}
-use Rattle.xv_base.specs.declared.text.LineWhy.TheVariants.{Limit, Order, Unended}
+use Rattle.xv_base.specs.declared.text.LineWhy.TheVariants.{Unended}
 use Rattle.xv_base.specs.declared.text.LineFault.{LineFault}
 use Rattle.xv_base.specs.declared.limits.Config.{Config}
 use Rattle.xv_base.specs.declared.pattern.UnitOp.{UnitOp}
-use Rattle.xv_base.specs.declared.pattern.Init.{Init}
 use Rattle.xv_base.specs.Units.{Shape, shape_of, units, blocks}
-use Rattle.xv_text.specs.Fields.{fault_if, IsPattern}
-use Rattle.xv_text.specs.Reading.{Reader, at_line, at_line_or, first_fault, last_state, line_count}
+use Rattle.xv_text.specs.Fields.{IsPattern}
+use Rattle.xv_text.specs.Reading.{at_line, at_line_or, first_fault, last_state, line_count}
 use Rattle.xv_trace.specs.declared.op.Op.{Op}
 use Rattle.xv_trace.specs.declared.op.Verb.{Verb}
 use Rattle.xv_trace.specs.declared.op.Verb.TheVariants.{Store as StoreVerb, Load as LoadVerb, Write as WriteVerb, Fetch as FetchVerb}
-use Rattle.xv_trace.specs.Operations.{all_unit_operations, count_all, no_op}
-use Rattle.xv_trace.specs.OpText.{head, tail, op_fields, verb_of, IsGoodOp}
+use Rattle.xv_trace.specs.Operations.{all_unit_operations, no_op}
+use Rattle.xv_trace.specs.OpText.{head, tail, verb_of, IsGoodOp}
 use Rattle.xv_job.specs.declared.word.Word.{Word}
 use Rattle.xv_job.specs.declared.word.Word.TheVariants.{Job as JobWord, Pages, Disk, Streams, Credit, Outbox, Region, Rounds, Dirty, Group, Cancel, Fault as FaultWord, Init as InitWord, Guest, Operation, End}
-use Rattle.xv_job.specs.Words.{own_word, or_operation, rank, repeats, needed, is_group, may_come, kinds, word_of}
-use Rattle.xv_job.specs.Draft.{Draft, first_draft, draft_by, next_draft, line_fault, word_fault, is_in_traces, is_complete, exceeds, operations_so_far, job_reader, outside}
-use Rattle.xv_job.specs.JobText.{machine_lines, limit_lines, group_lines, cancel_lines, fault_fields, init_fields, guest_lines, job_lines, disk_fields}
+use Rattle.xv_job.specs.Words.{own_word, or_operation, needed, is_group, may_come, word_of}
+use Rattle.xv_job.specs.Draft.{Draft, draft_by, next_draft, line_fault, word_fault, is_in_traces, is_complete, exceeds, operations_so_far}
+use Rattle.xv_job.specs.JobText.{machine_lines, limit_lines, group_lines, cancel_lines, fault_fields, init_fields, guest_lines, job_lines}
 use Rattle.xv_job.specs.Written.{Written, IsGoodWritten, job_of, ops}
 use Rattle.xv_model.specs.Job.{IsGoodJob, operation_count, trace, no_init, no_operation, IsLegal, operation}
-use Rattle.xv_text.specs.declared.row.Kind.TheVariants.{Number, Bytes}
+use Rattle.xv_text.specs.declared.row.Kind.TheVariants.{Number}
 use Rattle.xv_text.specs.Fields.{values, number_at}
 use Rattle.xv_job.proofs.Args.{nothing, one_number}
 use Rattle.xv_job.specs.Built.{reader_of, fault_by, unbuilt_fault}
-use Rattle.xv_job.proofs.Parts.{own_spelled, verb_spelling, either, IsFine, fine, Comes, comes, spelling, spelled, neither, neither_test, not_there, no_no, inside}
+use Rattle.xv_job.proofs.Parts.{own_spelled, verb_spelling, either, IsFine, fine, comes, spelling, spelled, neither, not_there, inside}
 use Rattle.xv_job.proofs.Shapes.{not_above}
 use Rattle.xv_job.proofs.Head.{IsFormat, IsMachine, Between, Head, at_start, at_job, at_pages, at_disk, at_streams, at_credit, at_outbox, at_region, at_rounds, at_dirty, config_of, head_job, draft_at, machine, to_dirty, step_start, step_job, step_pages, step_disk, step_streams, step_credit, step_outbox, step_region, step_rounds}
-use Rattle.xv_job.proofs.Lists.{Rises, all_at, rises_at}
-use Rattle.xv_job.proofs.Body.{IsFixed, IsListed, IsBody, list_lines, head_lines, front_lines, body_cancel, body_fault, body_init, body_guest, body_operation}
+use Rattle.xv_job.proofs.Lists.{all_at, rises_at}
+use Rattle.xv_job.proofs.Body.{IsFixed, IsListed, IsBody, head_lines, front_lines, body_cancel, body_fault, body_init, body_guest, body_operation}
 use Rattle.xv_job.proofs.Legal.{traces_counted, ops_legal}
 
 -- a whole job

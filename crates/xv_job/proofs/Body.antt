@@ -1,41 +1,38 @@
 -- The lines of a job behind its limits, read one by one: what has been read is the front of a good job's lines.
-use Rattle.std.proofs.Common.{◌≡◌, ℕ, suc, zero, ◌+◌, ◌-◌, ◌*◌, ◌^◌, ◌<◌, ◌≤◌, ◌==◌, ◌&&◌, ◌||◌, Bool, true, false, not, List, [], ◌∷◌, ◌++◌, length, map, Option, Some, None, IfSome, sum_by, nat_lt, nat_le, get_or, codes, decimal, refl, sym, ap, ◌∙◌, subst, arith, rules, append_assoc, if◌then◌else◌, inl, inr, ◌⊎◌}
+use Rattle.std.proofs.Common.{◌≡◌, ℕ, ◌+◌, ◌^◌, ◌<◌, ◌≤◌, ◌==◌, ◌||◌, Bool, true, false, not, List, [], ◌∷◌, ◌++◌, length, map, Option, Some, None, IfSome, sum_by, nat_lt, nat_le, codes, decimal, refl, sym, ap, ◌∙◌, subst, arith, append_assoc, inl, inr, ◌⊎◌}
 use Rattle.std.specs.List.{AllByRecursion, list_all, list_any, flat_map}
 use Rattle.std.proofs.lemmas.List.{append-nil, length-append, map-append}
 use Rattle.std.proofs.lemmas.List.Sums.{sum_by-append, sum_by-cons}
 use Rattle.std.proofs.lemmas.List.Concat.{flat_map-append}
-use Rattle.std.proofs.lemmas.Bool.{and_parts, cases_lt}
+use Rattle.std.proofs.lemmas.Bool.{cases_lt}
 use Rattle.std.proofs.lemmas.Bool.Decides.{nat_tests}
-use Rattle.xv_base.specs.declared.text.LineWhy.{LineWhy}
 use Rattle.xv_base.specs.declared.text.LineWhy.TheVariants.{Limit, Order, OutOfRange, TooMany}
-use Rattle.xv_base.specs.declared.limits.Config.{Config}
 use Rattle.xv_base.specs.declared.limits.Fault.{Fault}
 use Rattle.xv_base.specs.declared.limits.Fault.TheVariants.{SourceRead, SourceWrite, DestRead, DestWrite, Flush, Put, Take, AckPut, AckTake}
 use Rattle.xv_base.specs.declared.pattern.Init.{Init}
-use Rattle.xv_base.specs.Units.{Shape, shape_of, units}
+use Rattle.xv_base.specs.Units.{Shape, units}
 use Rattle.xv_base.specs.Layout.{IsGood}
 use Rattle.xv_text.specs.declared.row.Kind.TheVariants.{Number, Bytes}
-use Rattle.xv_text.specs.Fields.{Values, values, number_at, fault_if, or_else, fields_fault, IsPattern}
+use Rattle.xv_text.specs.Fields.{values, number_at, fault_if, fields_fault, IsPattern}
 use Rattle.xv_trace.specs.declared.op.Op.{Op}
 use Rattle.xv_trace.specs.declared.op.Verb.{Verb}
 use Rattle.xv_trace.specs.declared.op.Verb.TheVariants.{Store as StoreVerb, Load as LoadVerb, Write as WriteVerb, Fetch as FetchVerb}
 use Rattle.xv_trace.specs.Operations.{op_fault, op_count, count_all}
-use Rattle.xv_trace.specs.OpText.{is_word, head, tail, kinds_of, op_of, op_fields, IsGoodOp}
-use Rattle.xv_job.specs.declared.word.Word.{Word}
-use Rattle.xv_job.specs.declared.word.Word.TheVariants.{Job as JobWord, Pages, Disk, Streams, Credit, Outbox, Region, Rounds, Dirty, Group, Cancel, Fault as FaultWord, Init as InitWord, Guest, Operation, End}
+use Rattle.xv_trace.specs.OpText.{head, tail, kinds_of, op_of, op_fields, IsGoodOp}
+use Rattle.xv_job.specs.declared.word.Word.TheVariants.{Cancel, Fault as FaultWord, Init as InitWord, Guest, Operation}
 use Rattle.xv_job.specs.declared.word.Call.{Call}
 use Rattle.xv_job.specs.declared.word.Call.TheVariants.{SourceRead as SourceReadCall, SourceWrite as SourceWriteCall, DestRead as DestReadCall, DestWrite as DestWriteCall, Flush as FlushCall, Put as PutCall, Take as TakeCall, AckPut as AckPutCall, AckTake as AckTakeCall}
-use Rattle.xv_job.specs.Words.{rank, repeats, needed, is_group, may_come, kinds, call_of, call_kinds}
-use Rattle.xv_job.specs.Draft.{Draft, draft_by, outside, planned_fault, faults_said, fault_of, has_bad_number, is_stream_of, plan_fault, init_fault, operation_fault, operations_so_far, after_last, exceeds, with_op, numbers_fault}
-use Rattle.xv_job.specs.JobText.{machine_lines, limit_lines, group_lines, cancel_lines, fault_fields, init_fields, guest_lines, job_lines}
+use Rattle.xv_job.specs.Words.{call_of, call_kinds}
+use Rattle.xv_job.specs.Draft.{Draft, draft_by, planned_fault, faults_said, fault_of, has_bad_number, operations_so_far, after_last, with_op}
+use Rattle.xv_job.specs.JobText.{machine_lines, limit_lines, group_lines, cancel_lines, fault_fields, init_fields, guest_lines}
 use Rattle.xv_job.specs.Written.{Written, fault_number}
 use Rattle.xv_model.specs.Job.{is_good_fault}
 use Rattle.xv_job.proofs.Args.{nothing, one_number, two_numbers, number_and_bytes, op_read}
 use Rattle.xv_trace.proofs.OpLines.{verb_word}
-use Rattle.xv_job.proofs.Parts.{IsFine, Comes, comes, chosen, spelling, neither, neither_test, not_there, no_no, inside}
+use Rattle.xv_job.proofs.Parts.{IsFine, comes, chosen, spelling, neither, neither_test, not_there}
 use Rattle.xv_job.proofs.Shapes.{not_above}
-use Rattle.xv_job.proofs.Head.{IsFormat, IsMachine, Between}
-use Rattle.xv_job.proofs.Lists.{all_push, tests_push, Rises, rises_push, HasLast, has_last, with_op_is, ops_count, ops_lines}
+use Rattle.xv_job.proofs.Head.{Between}
+use Rattle.xv_job.proofs.Lists.{all_push, tests_push, Rises, rises_push, has_last, with_op_is, ops_count, ops_lines}
 
 -- what no line behind the limits changes
 pub record IsFixed (w : Written) : Type 0 where
@@ -207,12 +204,14 @@ planned_by : (word : List ℕ) (args : List (List ℕ)) (o : Option Call) → ca
 planned_by word args None e h = absurd (cc)
 planned_by word args (Some c) e h =
     let r = call_read c args h in
-    let word_is = call_spelled word c e in
-    (fault_of c (values (call_kinds c) args), record {
-      said = rw e refl;
-      written = r.written ∙ ap (λ (w : List ℕ). codes "fault" ∷ w ∷ args) (sym word_is);
-      small = r.small;
-    })
+    let word_is = call_spelled word c e in (
+      fault_of c (values (call_kinds c) args),
+      record {
+        said = rw e refl;
+        written = r.written ∙ ap (λ (w : List ℕ). codes "fault" ∷ w ∷ args) (sym word_is);
+        small = r.small;
+      },
+    )
 
 pub planned : (args : List (List ℕ)) → planned_fault (call_of (head args)) (tail args) ≡ None → (x : Fault) × IsPlanned args x
 planned [] h = absurd (cc)

@@ -1,13 +1,11 @@
 -- A text without what is not built says a job that is built.
-use Rattle.std.proofs.Common.{◌≡◌, ℕ, zero, suc, ◌+◌, ◌-◌, ◌<◌, ◌≤◌, ◌&&◌, Bool, true, false, List, [], ◌∷◌, ◌++◌, length, take, get_or, Option, Some, None, nat_lt, codes, refl, sym, ap, ◌∙◌, subst, arith, if◌then◌else◌, inl, inr}
+use Rattle.std.proofs.Common.{◌≡◌, ℕ, zero, suc, ◌+◌, ◌<◌, ◌≤◌, Bool, true, false, List, [], ◌∷◌, ◌++◌, length, get_or, Option, Some, None, nat_lt, codes, refl, sym, ap, subst, arith, if◌then◌else◌, inl, inr}
 use Rattle.std.specs.List.{AllByRecursion}
 use Rattle.std.proofs.lemmas.Bool.Decides.{nat_tests}
 use Rattle.std.proofs.lemmas.List.{length-append}
-use Rattle.xv_base.specs.declared.text.LineWhy.{LineWhy}
-use Rattle.xv_base.specs.declared.text.LineWhy.TheVariants.{Unended, Unbuilt}
 use Rattle.xv_text.specs.declared.row.Kind.TheVariants.{Number}
-use Rattle.xv_text.specs.Fields.{Values, values, number_at, fault_if}
-use Rattle.xv_text.specs.Reading.{first_fault, last_state, at_line, at_line_or}
+use Rattle.xv_text.specs.Fields.{Values, values, number_at}
+use Rattle.xv_text.specs.Reading.{first_fault, last_state, at_line_or}
 use Rattle.xv_trace.specs.declared.op.Op.{Op}
 use Rattle.xv_trace.specs.declared.op.Verb.{Verb}
 use Rattle.xv_trace.specs.declared.op.Verb.TheVariants.{Store as StoreVerb, Load as LoadVerb, Write as WriteVerb, Fetch as FetchVerb}

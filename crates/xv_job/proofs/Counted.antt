@@ -1,6 +1,5 @@
 -- The traces of a job: how many unit operations they have, and which.
-use Rattle.std.proofs.Common.{◌≡◌, ℕ, zero, suc, ◌+◌, ◌^◌, ◌<◌, ◌≤◌, List, [], ◌∷◌, ◌++◌, length, map, take, get_or, sum_by, refl, sym, ap, ◌∙◌, subst, arith, inl, inr}
-use Rattle.std.specs.List.{AllByRecursion}
+use Rattle.std.proofs.Common.{◌≡◌, ℕ, zero, suc, ◌+◌, ◌^◌, ◌<◌, ◌≤◌, List, [], ◌∷◌, length, take, get_or, sum_by, refl, sym, ap, ◌∙◌, arith, inl, inr}
 use Rattle.std.proofs.lemmas.Bool.{cases_lt}
 use Rattle.std.proofs.lemmas.List.Sums.{sum_by-cons}
 use Rattle.xv_base.specs.Units.{Shape}
@@ -9,7 +8,7 @@ use Rattle.xv_trace.specs.Operations.{count_all, all_unit_operations, no_unit_op
 use Rattle.xv_trace.specs.OpText.{Program}
 use Rattle.xv_trace.proofs.Counts.{length-all_unit_operations}
 use Rattle.xv_job.specs.Written.{Written, IsGoodWritten, AreTraces, job_of, ops_held}
-use Rattle.xv_model.specs.Job.{operation_count, operation, trace, no_operation}
+use Rattle.xv_model.specs.Job.{operation_count, operation, trace}
 use Rattle.xv_job.proofs.Legal.{traces_counted}
 use Rattle.xv_job.proofs.Backward.{trace_is}
 

@@ -1,24 +1,22 @@
 -- A draft has few lines.
-use Rattle.std.proofs.Common.{◌≡◌, ℕ, zero, suc, ◌+◌, ◌-◌, ◌^◌, ◌<◌, ◌≤◌, ◌==◌, ◌||◌, Bool, true, false, List, [], ◌∷◌, ◌++◌, length, map, Option, Some, None, sum_by, nat_lt, nat_le, codes, decimal, refl, sym, ap, ◌∙◌, subst, arith, if◌then◌else◌}
+use Rattle.std.proofs.Common.{◌≡◌, ℕ, ◌+◌, ◌^◌, ◌<◌, ◌≤◌, ◌==◌, ◌||◌, Bool, true, false, List, [], ◌∷◌, ◌++◌, length, map, Option, Some, None, sum_by, nat_lt, nat_le, codes, decimal, ap, arith, if◌then◌else◌}
 use Rattle.std.specs.List.{AllByRecursion, flat_map}
 use Rattle.std.proofs.lemmas.List.{length-append, length-map}
 use Rattle.std.proofs.lemmas.List.Sums.{sum_by-cons}
 use Rattle.std.proofs.lemmas.Bool.Decides.{nat_tests}
-use Rattle.xv_base.specs.declared.text.LineWhy.TheVariants.{OutOfRange}
 use Rattle.xv_base.specs.declared.pattern.Init.{Init}
 use Rattle.xv_base.specs.Units.{Shape, shape_of, units, blocks}
 use Rattle.xv_trace.specs.declared.op.Op.{Op}
 use Rattle.xv_trace.specs.declared.op.Op.TheVariants.{Store, Load, Write, Fetch}
 use Rattle.xv_trace.specs.Operations.{op_fault, op_count, count_all}
 use Rattle.xv_trace.specs.OpText.{op_fields, IsGoodOp}
-use Rattle.xv_job.specs.Draft.{Draft, first_draft, after_last, is_complete}
+use Rattle.xv_job.specs.Draft.{Draft, after_last, is_complete}
 use Rattle.xv_job.specs.JobText.{disk_fields, fault_fields, init_fields, guest_lines, group_lines, cancel_lines, limit_lines, machine_lines}
-use Rattle.xv_job.specs.Written.{Written}
 use Rattle.xv_job.proofs.Parts.{neither_test, not_there}
 use Rattle.xv_job.proofs.Shapes.{sizes_of}
 use Rattle.xv_job.proofs.Head.{IsMachine, Head, machine, limit_line, to_streams, to_credit, to_outbox, to_region, to_rounds, at_start, at_job, at_pages, at_disk, at_streams, at_credit, at_outbox, at_region, at_rounds, at_dirty}
 use Rattle.xv_job.proofs.Lists.{Rises}
-use Rattle.xv_job.proofs.Body.{IsBody, list_lines, head_lines, front_lines}
+use Rattle.xv_job.proofs.Body.{IsBody, list_lines, head_lines}
 use Rattle.xv_job.proofs.Backward.{Reached, in_head, in_body, at_end}
 
 -- an operation is at least one unit operation
@@ -89,8 +87,29 @@ body_few d ls b =
     let faults = length-append (map fault_fields w.faults) (map init_fields w.init ++ flat_map guest_lines w.traces) in
     let inits = length-append (map init_fields w.init) (flat_map guest_lines w.traces) in
     let sizes = sizes_of w.shape b.fixed.good in
-    omega (arith, ap length b.lines, length-append (head_lines w) (list_lines w.config.cancel w.faults w.init w.traces), length-append (machine_lines w) (limit_lines w.config ++ group_lines w), length-append (limit_lines w.config) (group_lines w), lists, faults, inits,
-      length-map w.shape.disks disk_fields, sizes.few_disks, sizes.few_units, group_few (w.format == 2) w.group, cancel_few w.config.cancel, length-map w.faults fault_fields, l.few_faults, length-map w.init init_fields, init_few w.init l.init_rises, init_in (units w.shape) w.init l.init_units, traces_few w.shape w.traces l.good_ops, l.few_guests, l.few_ops)
+    omega (
+      arith,
+      ap length b.lines,
+      length-append (head_lines w) (list_lines w.config.cancel w.faults w.init w.traces),
+      length-append (machine_lines w) (limit_lines w.config ++ group_lines w),
+      length-append (limit_lines w.config) (group_lines w),
+      lists,
+      faults,
+      inits,
+      length-map w.shape.disks disk_fields,
+      sizes.few_disks,
+      sizes.few_units,
+      group_few (w.format == 2) w.group,
+      cancel_few w.config.cancel,
+      length-map w.faults fault_fields,
+      l.few_faults,
+      length-map w.init init_fields,
+      init_few w.init l.init_rises,
+      init_in (units w.shape) w.init l.init_units,
+      traces_few w.shape w.traces l.good_ops,
+      l.few_guests,
+      l.few_ops,
+    )
 
 ended_not : (n : ℕ) → n ≡ 15 → (n == 15) ≡ false → ⊥
 ended_not n e h = grind (arith, nat_tests)

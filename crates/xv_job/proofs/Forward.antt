@@ -1,32 +1,31 @@
 -- The text of a good job is read without a fault, as that job.
-use Rattle.std.proofs.Common.{◌≡◌, ℕ, suc, zero, ◌+◌, ◌-◌, ◌*◌, ◌^◌, ◌<◌, ◌≤◌, ◌==◌, ◌&&◌, ◌||◌, Bool, true, false, not, List, [], ◌∷◌, ◌++◌, length, map, Option, Some, None, IfSome, IsTrue, sum_by, nat_lt, nat_le, get_or, codes, decimal, refl, sym, ap, ◌∙◌, subst, arith, rules, append_assoc, if◌then◌else◌, inl, inr, ◌⊎◌}
+use Rattle.std.proofs.Common.{◌≡◌, ℕ, suc, ◌+◌, ◌^◌, ◌<◌, ◌≤◌, ◌==◌, Bool, true, false, List, [], ◌∷◌, ◌++◌, length, map, Option, Some, None, IfSome, sum_by, nat_lt, get_or, codes, decimal, refl, sym, ap, subst, arith, append_assoc, if◌then◌else◌, inl, inr, ◌⊎◌}
 use Rattle.std.specs.List.{AllByRecursion, list_all, flat_map}
-use Rattle.std.proofs.lemmas.List.{append-nil, length-append, length-map, map-append}
+use Rattle.std.proofs.lemmas.List.{append-nil, length-append, length-map}
 use Rattle.std.proofs.lemmas.List.Sums.{sum_by-append, sum_by-cons}
-use Rattle.std.proofs.lemmas.Bool.{and_parts, cases_lt}
+use Rattle.std.proofs.lemmas.Bool.{and_parts}
 use Rattle.std.proofs.lemmas.Bool.Decides.{nat_tests}
 use Rattle.xv_base.specs.declared.unit.DiskShape.{DiskShape}
 use Rattle.xv_base.specs.declared.limits.Config.{Config}
 use Rattle.xv_base.specs.declared.limits.Fault.{Fault}
 use Rattle.xv_base.specs.declared.pattern.Init.{Init}
-use Rattle.xv_base.specs.Units.{Shape, shape_of, units, blocks, blocks_of}
-use Rattle.xv_base.specs.Layout.{IsGood, is_unit_size}
+use Rattle.xv_base.specs.Units.{Shape, shape_of, units, blocks}
+use Rattle.xv_base.specs.Layout.{IsGood}
 use Rattle.xv_base.proofs.Within.{unit_size_most}
 use Rattle.xv_text.specs.Fields.{IsPattern}
-use Rattle.xv_text.specs.Reading.{first_fault, last_state, line_count}
 use Rattle.xv_trace.specs.declared.op.Op.{Op}
 use Rattle.xv_trace.specs.Operations.{op_count, count_all, no_op, all_unit_operations}
 use Rattle.xv_trace.specs.OpText.{op_fields, IsGoodOp}
-use Rattle.xv_job.specs.Draft.{Draft, first_draft, next_draft, is_complete, exceeds, after_last, operations_so_far}
+use Rattle.xv_job.specs.Draft.{Draft, first_draft, exceeds}
 use Rattle.xv_job.specs.JobText.{disk_fields, fault_fields, init_fields, guest_lines, group_lines, cancel_lines, limit_lines, machine_lines, job_lines}
 use Rattle.xv_job.specs.Written.{Written, IsGoodWritten, job_of, fault_number, ops}
-use Rattle.xv_job.specs.Built.{IsBuilt, reader_of, fault_by, is_on_disk}
+use Rattle.xv_job.specs.Built.{IsBuilt, is_on_disk}
 use Rattle.xv_model.specs.Job.{IsGoodJob, is_good_fault, operation_count, no_init}
-use Rattle.xv_job.proofs.Shapes.{HasSizes, sizes_of, size_next, blocks_append, front_good}
+use Rattle.xv_job.proofs.Shapes.{sizes_of, size_next, blocks_append, front_good}
 use Rattle.xv_job.proofs.Head.{IsFormat, Between, config_of, draft_at}
-use Rattle.xv_job.proofs.Lists.{all_of, all_front, Rises, rises_of, rises_next}
+use Rattle.xv_job.proofs.Lists.{all_of, Rises, rises_of, rises_next}
 use Rattle.xv_job.proofs.Legal.{traces_counted}
-use Rattle.xv_job.proofs.Steps.{IsStep, Reads, reads_then, reads_one, draft_in, IsBehind, step_job, step_pages, step_disk, step_streams, step_credit, step_outbox, step_region, step_rounds, step_dirty, step_group, step_cancel, step_fault, step_init, step_guest, step_op, step_end}
+use Rattle.xv_job.proofs.Steps.{Reads, reads_then, reads_one, draft_in, IsBehind, step_job, step_pages, step_disk, step_streams, step_credit, step_outbox, step_region, step_rounds, step_dirty, step_group, step_cancel, step_fault, step_init, step_guest, step_op, step_end}
 
 not_empty : {X : Type 0} (x : X) (xs : List X) → x ∷ xs ≡ [] → ⊥
 not_empty x xs e = absurd (cc)

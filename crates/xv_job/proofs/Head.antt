@@ -1,7 +1,7 @@
 -- The lines of a job up to its dirty limit, read one by one: what has been read is the front of a good job's lines.
-use Rattle.std.proofs.Common.{◌≡◌, ℕ, suc, zero, ◌+◌, ◌-◌, ◌*◌, ◌^◌, ◌<◌, ◌≤◌, ◌==◌, ◌&&◌, ◌||◌, Bool, true, false, not, List, [], ◌∷◌, ◌++◌, length, map, Option, Some, None, IsTrue, nat_lt, nat_le, get_or, codes, decimal, refl, sym, ap, ◌∙◌, subst, arith, rules, append_assoc, if◌then◌else◌, inl, inr, ◌⊎◌, lit<}
+use Rattle.std.proofs.Common.{◌≡◌, ℕ, ◌^◌, ◌≤◌, ◌==◌, ◌&&◌, ◌||◌, Bool, true, false, List, [], ◌∷◌, ◌++◌, length, Some, None, nat_lt, codes, decimal, refl, sym, ap, ◌∙◌, subst, arith, if◌then◌else◌, inl, inr, ◌⊎◌, lit<}
 use Rattle.std.specs.List.{AllByRecursion}
-use Rattle.std.proofs.lemmas.List.{append-nil, length-append, map-append}
+use Rattle.std.proofs.lemmas.List.{map-append}
 use Rattle.std.proofs.lemmas.Bool.{and_parts}
 use Rattle.std.proofs.lemmas.Bool.Decides.{nat_tests}
 use Rattle.std.specs.Cmp.Lexicographic.{same_text}
@@ -11,14 +11,13 @@ use Rattle.xv_base.specs.declared.unit.DiskShape.{DiskShape}
 use Rattle.xv_base.specs.declared.limits.Config.{Config}
 use Rattle.xv_base.specs.Units.{Shape, shape_of}
 use Rattle.xv_base.specs.Layout.{IsGood}
-use Rattle.xv_text.specs.declared.row.Kind.TheVariants.{Number, Bytes}
+use Rattle.xv_text.specs.declared.row.Kind.TheVariants.{Number}
 use Rattle.xv_text.specs.Fields.{values, number_at, fault_if}
-use Rattle.xv_trace.specs.OpText.{is_word, head, tail}
+use Rattle.xv_trace.specs.OpText.{is_word, head}
 use Rattle.xv_job.specs.declared.word.Word.{Word}
-use Rattle.xv_job.specs.declared.word.Word.TheVariants.{Job as JobWord, Pages, Disk, Streams, Credit, Outbox, Region, Rounds, Dirty, Group, Cancel, Fault as FaultWord, Init as InitWord, Guest, Operation, End}
-use Rattle.xv_job.specs.Words.{rank, kinds}
+use Rattle.xv_job.specs.declared.word.Word.TheVariants.{Job as JobWord, Pages, Disk, Streams, Credit, Outbox, Region, Rounds, Dirty}
 use Rattle.xv_job.specs.Draft.{Draft, first_draft, format_fault, draft_by, outside, region_fault, with_disk}
-use Rattle.xv_job.specs.JobText.{disk_fields, machine_lines, limit_lines}
+use Rattle.xv_job.specs.JobText.{disk_fields, machine_lines}
 use Rattle.xv_job.specs.Written.{Written}
 use Rattle.xv_job.proofs.Args.{one_number, two_numbers}
 use Rattle.xv_job.proofs.Parts.{IsFine, spelling, neither, not_there, no_no, inside}
@@ -213,4 +212,3 @@ step_rounds f s a b c d e is ha hb hc hd less he Dirty args h =
     let n = number_at (values (Number ∷ []) args) 0 in
     as_read (draft_by (draft_at 8 f s (config_of a b c d e 0)) (Some Dirty) args) (to_rounds f s a b c d e) (codes "dirty") args (decimal n ∷ []) l.0 (at_dirty f s a b c d e n is ha hb hc hd less he ((inside 13 0 (2 ^ 20) n h.numbers).1))
 step_rounds f s a b c d e is ha hb hc hd less he _ args h = let k = h.comes in absurd (cc)
-

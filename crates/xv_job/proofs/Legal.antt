@@ -1,27 +1,26 @@
 -- The unit operations of operations that may act: how many they are, and that each may act.
-use Rattle.std.proofs.Common.{◌≡◌, ℕ, suc, zero, ◌+◌, ◌-◌, ◌*◌, ◌/◌, ◌%◌, ◌^◌, ◌<◌, ◌≤◌, ◌==◌, ◌&&◌, ◌||◌, Bool, true, false, not, List, [], ◌∷◌, ◌++◌, length, map, Option, Some, None, IsTrue, is_some, sum_by, nat_lt, nat_le, get_or, refl, sym, ap, ◌∙◌, subst, arith, rules}
-use Rattle.std.specs.List.{AllByRecursion, flat_map}
+use Rattle.std.proofs.Common.{◌≡◌, ℕ, suc, zero, ◌+◌, ◌*◌, ◌/◌, ◌%◌, ◌<◌, ◌≤◌, ◌==◌, ◌||◌, true, false, List, [], ◌∷◌, ◌++◌, length, map, Option, Some, None, is_some, sum_by, nat_lt, nat_le, refl, sym, ◌∙◌, arith}
+use Rattle.std.specs.List.{AllByRecursion}
 use Rattle.std.proofs.Math.Nat.{div-lt_iff_lt-mul}
-use Rattle.std.proofs.lemmas.List.{length-append, length-map}
-use Rattle.std.proofs.lemmas.List.Sums.{sum_by-append, sum_by-cons}
+use Rattle.std.proofs.lemmas.List.{length-append}
+use Rattle.std.proofs.lemmas.List.Sums.{sum_by-cons}
 use Rattle.std.proofs.lemmas.Bool.Decides.{nat_tests}
-use Rattle.xv_base.specs.declared.text.LineWhy.{LineWhy}
 use Rattle.xv_base.specs.declared.text.LineWhy.TheVariants.{OutOfRange, CrossesPage}
 use Rattle.xv_base.specs.declared.pattern.UnitOp.{UnitOp}
-use Rattle.xv_base.specs.Units.{Shape, units, size, is_page, blocks, block_size, unit_of_block}
-use Rattle.xv_base.specs.Layout.{is_unit_size, IsGood, IsWithinLimits}
+use Rattle.xv_base.specs.Units.{Shape, size, blocks, block_size, unit_of_block}
+use Rattle.xv_base.specs.Layout.{IsGood}
 use Rattle.xv_base.specs.Laws.{NumbersBlocks}
 use Rattle.xv_base.proofs.Within.{good_within, unit_size_least}
 use Rattle.xv_base.proofs.Partition.{numbers_blocks}
-use Rattle.xv_text.specs.Fields.{fault_if, or_else}
+use Rattle.xv_text.specs.Fields.{fault_if}
 use Rattle.xv_trace.specs.declared.op.Op.{Op}
 use Rattle.xv_trace.specs.declared.op.Op.TheVariants.{Store, Load, Write, Fetch}
-use Rattle.xv_trace.specs.Operations.{memory_fault, op_fault, part_of, block_writes, unit_operations, all_unit_operations, op_count, count_all, no_op}
+use Rattle.xv_trace.specs.Operations.{memory_fault, op_fault, part_of, block_writes, unit_operations, all_unit_operations, op_count, count_all}
 use Rattle.xv_trace.specs.OpText.{IsGoodOp}
-use Rattle.xv_model.specs.Job.{IsLegal, no_operation}
+use Rattle.xv_model.specs.Job.{IsLegal}
 use Rattle.xv_job.proofs.Parts.{neither, neither_test, not_there}
 use Rattle.xv_job.proofs.Shapes.{not_above}
-use Rattle.xv_job.proofs.Lists.{all_push, all_at}
+use Rattle.xv_job.proofs.Lists.{all_push}
 
 -- how many they are
 block_writes_count : (s : Shape) (disk block n : ℕ) (pat : List ℕ) → length (block_writes s disk block n pat) ≡ n

@@ -16,3 +16,4 @@ pub mod Counted
 pub mod Few
 pub mod Progress
 pub mod BuiltLines
+pub mod Printed

@@ -1,18 +1,18 @@
 -- The tests of a line one by one.
-use Rattle.std.proofs.Common.{◌≡◌, ℕ, ◌<◌, ◌≤◌, ◌+◌, ◌^◌, List, [], ◌∷◌, codes, Option, Some, None, true, false, Bool, not, ◌&&◌, ◌||◌, nat_lt, nat_le, refl, sym, ap, ◌∙◌, subst, arith, if◌then◌else◌, inl, inr, ◌⊎◌, IfSome, ◌==◌}
+use Rattle.std.proofs.Common.{◌≡◌, ℕ, ◌<◌, ◌≤◌, List, codes, Option, Some, None, true, false, Bool, not, ◌&&◌, ◌||◌, nat_lt, nat_le, refl, sym, ap, ◌∙◌, arith, if◌then◌else◌, inl, inr, ◌⊎◌, ◌==◌}
 use Rattle.std.proofs.lemmas.Bool.{and_parts}
 use Rattle.std.proofs.lemmas.Bool.Decides.{nat_tests}
-use Rattle.std.specs.Cmp.Lexicographic.{pointwise, same_text}
+use Rattle.std.specs.Cmp.Lexicographic.{same_text}
 use Rattle.xv_base.specs.declared.text.LineWhy.{LineWhy}
-use Rattle.xv_base.specs.declared.text.LineWhy.TheVariants.{BadWord, Order, Limit}
+use Rattle.xv_base.specs.declared.text.LineWhy.TheVariants.{Order}
 use Rattle.xv_text.specs.Fields.{or_else, fault_if}
 use Rattle.xv_trace.specs.declared.op.Verb.{Verb}
 use Rattle.xv_trace.specs.declared.op.Verb.TheVariants.{Store as StoreVerb, Load as LoadVerb, Write as WriteVerb, Fetch as FetchVerb}
-use Rattle.xv_trace.specs.OpText.{is_word, verb_of, head, tail}
+use Rattle.xv_trace.specs.OpText.{is_word, verb_of}
 use Rattle.xv_job.specs.declared.word.Word.{Word}
 use Rattle.xv_job.specs.declared.word.Word.TheVariants.{Job, Pages, Disk, Streams, Credit, Outbox, Region, Rounds, Dirty, Group, Cancel, Fault, Init, Guest, Operation, End}
 use Rattle.xv_job.specs.Words.{own_word, or_operation, word_of, rank, repeats, needed, is_group, may_come}
-use Rattle.xv_job.specs.Draft.{Draft, is_in_traces, word_fault, args_fault, numbers_fault, outside}
+use Rattle.xv_job.specs.Draft.{Draft, word_fault, args_fault, numbers_fault, outside}
 
 -- two tests that find nothing
 pub neither : (a b : Option LineWhy) → or_else a b ≡ None → (a ≡ None) × (b ≡ None)

@@ -1,11 +1,9 @@
 -- The lines of a good job have no space and no line feed in their fields.
-use Rattle.std.proofs.Common.{◌≡◌, ℕ, ◌+◌, ◌-◌, ◌^◌, ◌<◌, ◌≤◌, ◌==◌, ◌&&◌, Bool, true, false, List, [], ◌∷◌, ◌++◌, length, map, Option, Some, None, IfSome, nat_lt, codes, decimal, refl, sym, ap, ◌∙◌, subst, arith, append_assoc, if◌then◌else◌, inl, inr, ◌⊎◌}
+use Rattle.std.proofs.Common.{◌≡◌, ℕ, ◌^◌, ◌<◌, ◌≤◌, ◌==◌, ◌&&◌, Bool, true, false, List, [], ◌∷◌, ◌++◌, map, Option, Some, None, IfSome, nat_lt, codes, decimal, refl, sym, subst, arith, append_assoc, if◌then◌else◌, inl, inr, ◌⊎◌}
 use Rattle.std.specs.List.{AllByRecursion, list_all, flat_map}
 use Rattle.std.proofs.lemmas.Bool.{and_parts}
 use Rattle.std.proofs.lemmas.Bool.Decides.{nat_tests}
-use Rattle.xv_base.specs.Hex.{hex}
 use Rattle.xv_base.specs.declared.unit.DiskShape.{DiskShape}
-use Rattle.xv_base.specs.declared.limits.Config.{Config}
 use Rattle.xv_base.specs.declared.limits.Fault.{Fault}
 use Rattle.xv_base.specs.declared.limits.Fault.TheVariants.{SourceRead, SourceWrite, DestRead, DestWrite, Flush, Put, Take, AckPut, AckTake}
 use Rattle.xv_base.specs.declared.pattern.Init.{Init}
@@ -13,7 +11,7 @@ use Rattle.xv_base.specs.Units.{Shape, shape_of, units}
 use Rattle.xv_base.proofs.Within.{unit_size_most}
 use Rattle.xv_base.specs.Layout.{IsGood}
 use Rattle.xv_text.specs.Fields.{IsPattern}
-use Rattle.xv_text.proofs.Apart.{IsPlain, ArePlain, IsPlainLine, ArePlainLines, decimal_plain, hex_plain}
+use Rattle.xv_text.proofs.Apart.{IsPlain, IsPlainLine, ArePlainLines, decimal_plain, hex_plain}
 use Rattle.xv_trace.specs.declared.op.Op.{Op}
 use Rattle.xv_trace.specs.OpText.{op_fields, IsGoodOp}
 use Rattle.xv_trace.proofs.OpLines.{op_fields_plain}
@@ -21,7 +19,7 @@ use Rattle.xv_job.specs.JobText.{disk_fields, fault_fields, init_fields, guest_l
 use Rattle.xv_job.specs.Written.{Written, IsGoodWritten, fault_number}
 use Rattle.xv_model.specs.Job.{is_good_fault}
 use Rattle.xv_job.proofs.Shapes.{sizes_of}
-use Rattle.xv_job.proofs.Forward.{HasGoodParts, good_parts, IsSmallDisk, small_disk}
+use Rattle.xv_job.proofs.Forward.{HasGoodParts, good_parts, small_disk}
 
 -- lines put together
 pub plain_append : (xs ys : List (List (List ℕ))) → ArePlainLines xs → ArePlainLines ys → ArePlainLines (xs ++ ys)
@@ -50,21 +48,35 @@ format_small f g (inr (e, l, h)) = (omega arith, omega arith)
 machine_plain : (w : Written) → HasGoodParts w → ArePlainLines (machine_lines w)
 machine_plain w p =
     let h = sizes_of w.shape p.limits.machine in
-    let size = unit_size_most w.shape.page_size h.page_size in
-    (one_line (codes "job") w.format (record { no_space = refl; no_feed = refl }) (format_small w.format w.group p.limits.formats).0,
-      (two_line (codes "pages") w.shape.pages w.shape.page_size (record { no_space = refl; no_feed = refl }) (omega (arith, h.few_units)) (omega (arith, size)),
-      disks_plain w.shape.pages w.shape.page_size [] w.shape.disks p.limits.machine))
+    let size = unit_size_most w.shape.page_size h.page_size in (
+      one_line (codes "job") w.format (record { no_space = refl; no_feed = refl }) (format_small w.format w.group p.limits.formats).0,
+      (
+        two_line (codes "pages") w.shape.pages w.shape.page_size (record { no_space = refl; no_feed = refl }) (omega (arith, h.few_units)) (omega (arith, size)),
+        disks_plain w.shape.pages w.shape.page_size [] w.shape.disks p.limits.machine,
+      ),
+    )
 
 limits_plain : (w : Written) → HasGoodParts w → ArePlainLines (limit_lines w.config)
 limits_plain w p =
-    let l = p.limits in
-    (one_line (codes "streams") w.config.streams (record { no_space = refl; no_feed = refl }) (omega (arith, l.streams.1)),
-      (one_line (codes "credit") w.config.credit (record { no_space = refl; no_feed = refl }) (omega (arith, l.credit.1)),
-      (one_line (codes "outbox") w.config.outbox (record { no_space = refl; no_feed = refl }) (omega (arith, l.outbox.1)),
-      (one_line (codes "region") w.config.region (record { no_space = refl; no_feed = refl }) (omega (arith, l.region.1)),
-      (one_line (codes "rounds") w.config.rounds (record { no_space = refl; no_feed = refl }) (omega (arith, l.rounds.1)),
-      (one_line (codes "dirty") w.config.dirty (record { no_space = refl; no_feed = refl }) (omega (arith, l.dirty)),
-      tt))))))
+    let l = p.limits in (
+      one_line (codes "streams") w.config.streams (record { no_space = refl; no_feed = refl }) (omega (arith, l.streams.1)),
+      (
+        one_line (codes "credit") w.config.credit (record { no_space = refl; no_feed = refl }) (omega (arith, l.credit.1)),
+        (
+          one_line (codes "outbox") w.config.outbox (record { no_space = refl; no_feed = refl }) (omega (arith, l.outbox.1)),
+          (
+            one_line (codes "region") w.config.region (record { no_space = refl; no_feed = refl }) (omega (arith, l.region.1)),
+            (
+              one_line (codes "rounds") w.config.rounds (record { no_space = refl; no_feed = refl }) (omega (arith, l.rounds.1)),
+              (
+                one_line (codes "dirty") w.config.dirty (record { no_space = refl; no_feed = refl }) (omega (arith, l.dirty)),
+                tt,
+              ),
+            ),
+          ),
+        ),
+      ),
+    )
 
 group_plain : (b : Bool) (g : ℕ) → g < 2 ^ 64 → ArePlainLines (if b then (codes "group" ∷ decimal g ∷ []) ∷ [] else [])
 group_plain true g h = (one_line (codes "group") g (record { no_space = refl; no_feed = refl }) h, tt)

@@ -1,5 +1,5 @@
 -- How far a text has been read.
-use Rattle.std.proofs.Common.{◌≡◌, ℕ, zero, suc, ◌+◌, ◌-◌, ◌^◌, ◌<◌, ◌≤◌, Bool, true, false, List, [], ◌∷◌, ◌++◌, length, map, take, Option, Some, None, refl, sym, ap, ◌∙◌, subst, arith, append_assoc}
+use Rattle.std.proofs.Common.{◌≡◌, ℕ, ◌+◌, ◌-◌, ◌^◌, ◌≤◌, Bool, true, false, List, [], ◌∷◌, ◌++◌, length, map, take, Option, Some, None, refl, sym, ap, ◌∙◌, subst, arith, append_assoc}
 use Rattle.std.proofs.lemmas.List.{length-append, append-nil, take_at}
 use Rattle.xv_base.specs.declared.text.LineWhy.{LineWhy}
 use Rattle.xv_base.specs.declared.text.LineWhy.TheVariants.{Unended}
@@ -7,12 +7,12 @@ use Rattle.xv_text.specs.Lines.{whole_lines, lines_of, has_rest, fields, line, t
 use Rattle.xv_text.specs.Reading.{first_fault, last_state, at_line, at_line_or}
 use Rattle.xv_text.proofs.Apart.{line-fields, text_of-append}
 use Rattle.xv_job.specs.Draft.{Draft, first_draft, next_draft, is_complete}
-use Rattle.xv_job.specs.Built.{IsBuilt, reader_of, fault_by}
+use Rattle.xv_job.specs.Built.{reader_of, fault_by}
 use Rattle.xv_job.specs.Held.{Leads}
 use Rattle.xv_job.specs.JobText.{job_lines, job_text}
 use Rattle.xv_job.specs.Texts.{text_fault}
 use Rattle.xv_job.specs.Written.{Written, IsGoodWritten}
-use Rattle.xv_job.proofs.Backward.{Reached, in_head, IsWhole, whole_of}
+use Rattle.xv_job.proofs.Backward.{in_head, whole_of}
 use Rattle.xv_job.proofs.Head.{at_start}
 use Rattle.xv_job.proofs.ReachedAt.{leads_on, lead_further, fault_less}
 use Rattle.xv_job.proofs.Few.{lines_few}

@@ -1,27 +1,23 @@
 -- What is known of a draft where a word may come.
-use Rattle.std.proofs.Common.{◌≡◌, ℕ, ◌+◌, ◌^◌, ◌<◌, ◌≤◌, ◌&&◌, ◌==◌, Bool, true, false, not, List, [], ◌∷◌, ◌++◌, length, map, sum_by, Option, Some, None, refl, sym, ap, ◌∙◌, subst, arith}
+use Rattle.std.proofs.Common.{◌≡◌, ℕ, ◌^◌, ◌≤◌, ◌&&◌, Bool, true, false, List, [], ◌∷◌, ◌++◌, length, Option, Some, None, refl, sym, ap, ◌∙◌, subst, arith}
 use Rattle.std.proofs.lemmas.List.{append-nil, append_assoc, length-map}
-use Rattle.std.proofs.lemmas.Bool.Decides.{nat_tests}
 use Rattle.xv_base.specs.declared.text.LineWhy.{LineWhy}
 use Rattle.xv_base.specs.declared.text.LineWhy.TheVariants.{BadWord, Order, Unbuilt}
-use Rattle.xv_base.specs.Units.{shape_of}
 use Rattle.xv_base.specs.Layout.{IsGood}
 use Rattle.xv_text.specs.Fields.{or_else, fault_if}
-use Rattle.xv_trace.specs.Operations.{count_all}
 use Rattle.xv_trace.specs.declared.op.Verb.{Verb}
 use Rattle.xv_trace.specs.OpText.{head, tail, Program}
 use Rattle.xv_job.specs.declared.word.Word.{Word}
-use Rattle.xv_job.specs.declared.word.Word.TheVariants.{Pages, Disk, Init as InitWord, Guest, Operation}
-use Rattle.xv_job.specs.declared.held.Held.{Held}
+use Rattle.xv_job.specs.declared.word.Word.TheVariants.{Pages, Disk, Operation}
 use Rattle.xv_job.specs.Written.{Written}
 use Rattle.xv_job.specs.Words.{may_come, rank, word_of, is_operation}
-use Rattle.xv_job.specs.Draft.{Draft, first_draft, next_draft, draft_by, line_fault, word_fault, is_in_traces, is_complete, args_fault, numbers_fault, operations_so_far, said}
+use Rattle.xv_job.specs.Draft.{Draft, first_draft, next_draft, line_fault, word_fault, is_in_traces, is_complete, args_fault, numbers_fault, operations_so_far, said}
 use Rattle.xv_job.specs.Built.{fault_by, is_unbuilt, unbuilt_fault}
-use Rattle.xv_job.specs.Held.{Leads, IsReached, Stops, behind_fault, draft_held, job_held}
+use Rattle.xv_job.specs.Held.{Leads, IsReached, Stops, behind_fault}
 use Rattle.xv_job.specs.Written.{ops_held}
 use Rattle.xv_job.specs.declared.held.Stop.{Stop}
 use Rattle.xv_job.proofs.Parts.{comes, neither}
-use Rattle.xv_job.proofs.Head.{Head, at_start, at_job, at_pages, at_disk, at_streams, at_credit, at_outbox, at_region, at_rounds, at_dirty}
+use Rattle.xv_job.proofs.Head.{at_start, at_job, at_pages, at_disk, at_streams, at_credit, at_outbox, at_region, at_rounds, at_dirty}
 use Rattle.xv_job.proofs.Backward.{Reached, in_head, in_body, at_end, step_line, operation_at}
 
 -- a draft that lines lead to

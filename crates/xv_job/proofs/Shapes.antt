@@ -1,22 +1,18 @@
 -- The machine as its lines are read: good so far, and good as a part of a good whole.
-use Rattle.std.proofs.Common.{◌≡◌, ℕ, suc, zero, ◌+◌, ◌*◌, ◌^◌, ◌<◌, ◌≤◌, Bool, true, false, not, ◌||◌, List, [], ◌∷◌, ◌++◌, length, Option, Some, None, IsTrue, nat_eq, nat_lt, nat_le, refl, sym, ap, ◌∙◌, subst, arith, rules, append_assoc}
-use Rattle.std.proofs.Math.Nat.{mul-le-mul_left}
+use Rattle.std.proofs.Common.{◌≡◌, ℕ, ◌+◌, ◌^◌, ◌<◌, ◌≤◌, Bool, true, false, not, ◌||◌, List, [], ◌∷◌, ◌++◌, length, Option, Some, None, nat_eq, nat_lt, nat_le, refl, sym, ap, ◌∙◌, subst, arith}
 use Rattle.std.proofs.lemmas.List.{length-append}
 use Rattle.std.proofs.lemmas.Bool.Decides.{nat_tests}
 use Rattle.xv_base.specs.declared.unit.DiskShape.{DiskShape}
 use Rattle.xv_base.specs.declared.layout.LayoutFault.{LayoutFault}
-use Rattle.xv_base.specs.declared.layout.LayoutFault.TheVariants.{NoPage, BadSize, TooManyUnits, TooManyBytes}
-use Rattle.xv_base.specs.declared.text.LineWhy.{LineWhy}
-use Rattle.xv_base.specs.declared.text.LineWhy.TheVariants.{Limit}
+use Rattle.xv_base.specs.declared.layout.LayoutFault.TheVariants.{BadSize, TooManyUnits, TooManyBytes}
 use Rattle.xv_base.specs.Units.{Shape, shape_of, blocks, blocks_of, bytes_of, units, all_bytes}
 use Rattle.xv_base.specs.Layout as layout
 use Rattle.xv_base.specs.Layout.{is_unit_size, first_of, layout_fault, IsGood, IsWithinLimits}
-use Rattle.xv_base.proofs.Within.{good_within}
-use Rattle.xv_text.specs.Fields.{or_else, fault_if}
+use Rattle.xv_text.specs.Fields.{or_else}
 use Rattle.xv_job.specs.Draft.{outside, size_fault, shape_fault, with_pages, with_disk, pages_fault, disk_fault}
 use Rattle.xv_job.specs.Held.{limit_of}
 use Rattle.xv_job.specs.Written.{Written}
-use Rattle.xv_job.proofs.Parts.{neither, both_none, not_there, there_not, no_no, inside, within}
+use Rattle.xv_job.proofs.Parts.{neither, both_none, not_there, no_no, inside, within}
 
 -- where neither of two is a fault
 first_none : (a b : Option LayoutFault) → first_of a b ≡ None → (a ≡ None) × (b ≡ None)
@@ -187,14 +183,16 @@ disk_passes w d more g some =
     let few : length ds < 4 = omega (arith, h.few_disks, length-append ds (d ∷ more)) in
     let us = blocks_append ds (d ∷ more) in
     let bs = bytes_append ds (d ∷ more) in
-    rw (least_not (length ds) 4 few,
+    rw (
+      least_not (length ds) 4 few,
       within 5 1 (2 ^ 20) d.blocks some (omega (arith, h.few_units, us)),
       is_sized (with_disk w.shape d.blocks d.block_size) d.block_size (omega (arith, h.some_page))
-      (record {
-        size_is = size_next 1 ds d more h.block_sizes;
-        few_units = omega (arith, h.few_units, us, blocks_append ds (d ∷ []));
-        few_bytes = omega (arith, h.few_bytes, bs, bytes_append ds (d ∷ []));
-      })) refl
+          (record {
+            size_is = size_next 1 ds d more h.block_sizes;
+            few_units = omega (arith, h.few_units, us, blocks_append ds (d ∷ []));
+            few_bytes = omega (arith, h.few_bytes, bs, bytes_append ds (d ∷ []));
+          }),
+    ) refl
 
 -- the layout of a shape with a disk more, and what is wrong with its numbers
 pub with_disk_is : (s : Shape) (d : DiskShape) (p z : ℕ) (ds : List DiskShape) → p ≡ s.pages → z ≡ s.page_size → ds ≡ s.disks ++ d ∷ [] → shape_of p z ds ≡ with_disk s d.blocks d.block_size

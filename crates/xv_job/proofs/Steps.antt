@@ -1,13 +1,10 @@
 -- The lines of a good job are read one by one: each line from the draft before it.
-use Rattle.std.proofs.Common.{◌≡◌, ℕ, suc, zero, ◌+◌, ◌-◌, ◌*◌, ◌^◌, ◌<◌, ◌≤◌, ◌==◌, ◌&&◌, ◌||◌, Bool, true, false, not, List, [], ◌∷◌, ◌++◌, length, map, Option, Some, None, IfSome, sum_by, nat_lt, nat_le, get_or, codes, decimal, refl, sym, ap, ◌∙◌, subst, arith, rules, append_assoc, if◌then◌else◌, inl, inr, ◌⊎◌, lit<}
-use Rattle.std.specs.List.{AllByRecursion, list_all, list_any, flat_map}
-use Rattle.std.proofs.lemmas.List.{append-nil, length-append, map-append}
-use Rattle.std.proofs.lemmas.List.Sums.{sum_by-append, sum_by-cons}
+use Rattle.std.proofs.Common.{◌≡◌, ℕ, ◌+◌, ◌^◌, ◌<◌, ◌≤◌, ◌==◌, ◌&&◌, ◌||◌, Bool, true, false, List, [], ◌∷◌, ◌++◌, length, Option, Some, None, sum_by, nat_lt, nat_le, codes, decimal, refl, sym, ap, ◌∙◌, subst, arith, inl, inr, ◌⊎◌, lit<}
+use Rattle.std.specs.List.{list_any}
 use Rattle.std.proofs.lemmas.Bool.{and_parts, and_from, cases_lt}
 use Rattle.std.proofs.lemmas.Bool.Decides.{nat_tests}
 use Rattle.std.proofs.lemmas.Fmt.{decimal_digit}
-use Rattle.xv_base.specs.declared.text.LineWhy.{LineWhy}
-use Rattle.xv_base.specs.declared.text.LineWhy.TheVariants.{Limit, Order, OutOfRange, TooMany, Unbuilt, BadWord}
+use Rattle.xv_base.specs.declared.text.LineWhy.TheVariants.{Limit, Order, OutOfRange, TooMany, Unbuilt}
 use Rattle.xv_base.specs.declared.unit.DiskShape.{DiskShape}
 use Rattle.xv_base.specs.declared.limits.Config.{Config}
 use Rattle.xv_base.specs.declared.limits.Fault.{Fault}
@@ -16,18 +13,16 @@ use Rattle.xv_base.specs.declared.pattern.Init.{Init}
 use Rattle.xv_base.specs.Hex.{hex}
 use Rattle.xv_base.specs.Units.{Shape, shape_of, units}
 use Rattle.xv_base.specs.Layout.{IsGood}
-use Rattle.xv_text.specs.declared.row.Kind.TheVariants.{Number, Bytes}
-use Rattle.xv_text.specs.Fields.{Values, values, number_at, fault_if, or_else, fields_fault, IsPattern}
+use Rattle.xv_text.specs.Fields.{fault_if, IsPattern}
 use Rattle.xv_trace.specs.declared.op.Op.{Op}
 use Rattle.xv_trace.specs.declared.op.Op.TheVariants.{Store, Load, Write, Fetch}
 use Rattle.xv_trace.specs.declared.op.Verb.{Verb}
-use Rattle.xv_trace.specs.declared.op.Verb.TheVariants.{Store as StoreVerb, Load as LoadVerb, Write as WriteVerb, Fetch as FetchVerb}
 use Rattle.xv_trace.specs.Operations.{op_fault, op_count, count_all}
-use Rattle.xv_trace.specs.OpText.{head, tail, kinds_of, op_of, op_fields, IsGoodOp}
+use Rattle.xv_trace.specs.OpText.{head, tail, op_fields, IsGoodOp}
 use Rattle.xv_job.specs.declared.word.Word.{Word}
 use Rattle.xv_job.specs.declared.word.Word.TheVariants.{Job as JobWord, Pages, Disk, Streams, Credit, Outbox, Region, Rounds, Dirty, Group, Cancel, Fault as FaultWord, Init as InitWord, Guest, Operation, End}
-use Rattle.xv_job.specs.Words.{rank, repeats, needed, is_group, may_come, kinds, call_of, word_of}
-use Rattle.xv_job.specs.Draft.{Draft, first_draft, draft_by, next_draft, line_fault, word_fault, is_in_traces, is_complete, outside, planned_fault, faults_said, has_bad_number, is_stream_of, plan_fault, init_fault, operation_fault, operations_so_far, after_last, exceeds, with_op, format_fault, region_fault, disk_fault, pages_fault}
+use Rattle.xv_job.specs.Words.{needed, may_come, call_of, word_of}
+use Rattle.xv_job.specs.Draft.{Draft, first_draft, draft_by, next_draft, line_fault, word_fault, is_in_traces, is_complete, outside, planned_fault, faults_said, has_bad_number, plan_fault, operation_fault, operations_so_far, after_last, exceeds, with_op, region_fault}
 use Rattle.xv_job.specs.JobText.{fault_fields, init_fields, disk_fields}
 use Rattle.xv_job.specs.Written.{Written, fault_number}
 use Rattle.xv_job.specs.Built.{is_unbuilt, unbuilt_fault, fault_by, is_on_disk}

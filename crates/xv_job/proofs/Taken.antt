@@ -1,10 +1,10 @@
 -- What is refused of a line, in the order of the tests.
-use Rattle.std.proofs.Common.{◌≡◌, Result, Ok, Err, OnOk, ℕ, zero, suc, get_or, set, inl, inr, ◌+◌, ◌-◌, ◌^◌, ◌<◌, ◌≤◌, ◌&&◌, Bool, true, false, List, [], ◌∷◌, ◌++◌, length, Option, Some, None, nat_lt, nat_le, refl, sym, ap, ◌∙◌, subst, arith}
+use Rattle.std.proofs.Common.{◌≡◌, Result, Ok, Err, OnOk, ℕ, zero, suc, get_or, set, inl, inr, ◌+◌, ◌-◌, ◌^◌, ◌<◌, ◌≤◌, ◌&&◌, Bool, true, false, List, [], ◌∷◌, ◌++◌, length, Option, Some, None, nat_lt, nat_le, refl, sym, ap, ◌∙◌, arith}
 use Rattle.std.proofs.lemmas.Bool.{cases_lt}
 use Rattle.std.proofs.lemmas.List.{length-append, map-append}
 use Rattle.std.proofs.lemmas.Bool.Decides.{nat_tests}
 use Rattle.xv_base.specs.declared.text.LineWhy.{LineWhy}
-use Rattle.xv_base.specs.declared.text.LineWhy.TheVariants.{Limit, OutOfRange, Order, Unbuilt, TooMany}
+use Rattle.xv_base.specs.declared.text.LineWhy.TheVariants.{Limit, Unbuilt, TooMany}
 use Rattle.xv_base.specs.declared.pattern.Init.{Init}
 use Rattle.xv_base.specs.Units.{Shape, units}
 use Rattle.xv_trace.specs.declared.op.Op.{Op}
@@ -21,7 +21,7 @@ use Rattle.xv_job.specs.Written.{Written}
 use Rattle.xv_job.specs.Draft.{fault_of, has_bad_number, after_last, said, operations_so_far, with_op}
 use Rattle.xv_job.specs.Held.{behind_fault}
 use Rattle.xv_job.specs.Written.{ops_held}
-use Rattle.xv_job.proofs.Lists.{after_last_push, HasLast, has_last, get_last, with_op_is}
+use Rattle.xv_job.proofs.Lists.{after_last_push, has_last, get_last, with_op_is}
 
 le_test : (a b : ℕ) → a ≤ b → nat_le a b ≡ true
 le_test a b h = grind (arith, nat_tests)
@@ -71,9 +71,9 @@ same_test : (a b c d : ℕ) → (a < b → c < d) → (c < d → a < b) → nat_
 same_test a b c d f g = elim (cases_lt a b) [
   | inl lt ↦ let h = f lt in rw (less a b lt, less c d h) refl
   | inr ge ↦ elim (cases_lt c d) [
-      | inl lt ↦ let h = g lt in absurd (omega arith)
-      | inr past ↦ rw (lt_test a b ge, lt_test c d past) refl
-    ]
+    | inl lt ↦ let h = g lt in absurd (omega arith)
+    | inr past ↦ rw (lt_test a b ge, lt_test c d past) refl
+  ]
 ]
 
 room_is : (n k room c : ℕ) → k ≤ n → room ≡ n - k → nat_lt room c ≡ nat_lt n (k + c)

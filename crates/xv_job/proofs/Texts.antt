@@ -1,26 +1,21 @@
 -- Texts that begin with a job, read and written.
-use Rattle.std.proofs.Common.{◌≡◌, ℕ, zero, suc, ◌+◌, ◌-◌, ◌^◌, ◌<◌, ◌≤◌, Bool, true, false, List, [], ◌∷◌, ◌++◌, length, map, take, drop, Option, Some, None, Result, Ok, Err, IfOk, refl, sym, ap, ◌∙◌, subst, arith, inl, inr, append_assoc, add-one, add_assoc}
-use Rattle.std.proofs.lemmas.Bool.{cases_lt}
-use Rattle.std.proofs.lemmas.Bool.Decides.{nat_tests}
-use Rattle.std.proofs.lemmas.List.{length-append, append_cancel_left, append-nil}
-use Rattle.std.proofs.lemmas.List.{take_at}
-use Rattle.xv_base.specs.declared.text.LineWhy.{LineWhy}
-use Rattle.xv_base.specs.declared.text.LineWhy.TheVariants.{Unended}
-use Rattle.xv_base.specs.declared.text.LineFault.{LineFault}
-use Rattle.xv_text.specs.Lines.{whole_lines, lines_of, has_rest, fields, line, text_of}
-use Rattle.xv_text.specs.Reading.{first_fault, last_state, line_count, at_line, at_line_or}
-use Rattle.xv_text.proofs.Apart.{ArePlainLines, lines_of-text, has_rest-text, line-fields, text_of-append}
+use Rattle.std.proofs.Common.{◌≡◌, ℕ, zero, suc, ◌+◌, ◌-◌, ◌≤◌, Bool, true, false, List, [], ◌∷◌, ◌++◌, length, map, take, drop, position, ◌==◌, Option, Some, None, Result, Ok, Err, IfOk, refl, sym, ap, ◌∙◌, subst, arith, append_assoc}
+use Rattle.xv_text.specs.Lines.{lines_of, has_rest, fields, text_of}
+use Rattle.xv_text.specs.Reading.{first_fault, last_state, line_count}
+use Rattle.xv_text.specs.Cuts.{Lacks, IsCut}
+use Rattle.xv_text.proofs.Cuts.{cut_at_place, cut_at_none, cut_shorter, whole_lines-none}
+use Rattle.std.proofs.lemmas.List.{take-append-drop}
+use Rattle.xv_text.proofs.Apart.{text_of-cut, lines_of-text, has_rest-text, text_of-append}
 use Rattle.xv_job.specs.Draft.{Draft, first_draft, next_draft, is_complete}
-use Rattle.xv_job.specs.Built.{IsBuilt, reader_of, fault_by}
+use Rattle.xv_job.specs.Built.{IsBuilt, reader_of}
 use Rattle.xv_job.specs.JobText.{job_lines, job_text}
 use Rattle.xv_job.specs.Written.{Written, IsGoodWritten}
 use Rattle.xv_base.specs.declared.text.TextError.{TextError}
 use Rattle.xv_base.specs.declared.text.TextError.TheVariants.{Fault, NoMemory}
 use Rattle.xv_trace.specs.OpText.{IfFault}
-use Rattle.xv_job.specs.Texts.{text_fault, job_said, UnlessNoMemory}
+use Rattle.xv_job.specs.Texts.{text_fault, job_said, UnlessNoMemory, SaysJob, IsReadBack}
 use Rattle.xv_job.proofs.BuiltLines.{built_text}
-use Rattle.xv_job.proofs.Parts.{either}
-use Rattle.xv_job.proofs.Backward.{IsWhole, sound, in_head}
+use Rattle.xv_job.proofs.Backward.{sound, in_head}
 use Rattle.xv_job.proofs.Head.{at_start}
 use Rattle.xv_job.proofs.Steps.{Reads}
 use Rattle.xv_job.proofs.Forward.{job_reads}
@@ -82,3 +77,56 @@ only_read built w rest text (Err (Fault f)) job g b e said fault =
 pub built_read : {A : Type 0} (text : List ℕ) (r : Result A TextError) (job : A → Written) → IfOk r (λ found. text_fault true text ≡ None) → IfOk r (λ found. IsGoodWritten (job found)) → IfOk r (λ found. job found ≡ job_said true text) → IfOk r (λ found. IsBuilt (job found))
 built_read text (Ok found) job none good said = built_text (job found) (lines_of text) (has_rest text) good said none
 built_read text (Err e) job none good said = tt
+
+-- a text is its whole lines, and bytes behind them
+pub record HasFront (text : List ℕ) : Type 0 where
+  pub behind : List ℕ
+  pub whole : text ≡ text_of (lines_of text) ++ behind
+
+front_none : (text : List ℕ) → Lacks 10 text → HasFront text
+front_none text h = record { behind = text; whole = ap (λ (ls : List (List ℕ)). text_of (map fields ls) ++ text) (sym (whole_lines-none text h)) }
+
+front_cut : (text front back : List ℕ) → IsCut 10 text front back → HasFront back → HasFront text
+front_cut text front back cut h = record {
+  behind = h.behind;
+  whole =
+      cut.whole
+      ∙ ap (λ (t : List ℕ). front ++ 10 ∷ t) h.whole
+      ∙ sym (append_assoc front (10 ∷ text_of (lines_of back)) h.behind)
+      ∙ ap (λ (t : List ℕ). t ++ h.behind) (sym (text_of-cut text front back cut));
+}
+
+front_by : (n : ℕ) (text : List ℕ) → length text ≤ n → (o : Option ℕ) → o ≡ position (λ b. b == 10) text → HasFront text
+front_by n text h None e = front_none text (cut_at_none 10 text e)
+front_by zero text h (Some k) e = absurd (omega (arith, cut_shorter 10 text _ _ (cut_at_place 10 text k e)))
+front_by (suc n) text h (Some k) e =
+    let cut = cut_at_place 10 text k e in
+    let back = take (length text - (k + 1)) (drop (k + 1) text) in
+    front_cut text (take k text) back cut (front_by n back (omega (arith, cut_shorter 10 text (take k text) back cut)) (position (λ b. b == 10) back) refl)
+
+pub front_of : (text : List ℕ) → HasFront text
+front_of text = front_by (length text) text (omega arith) (position (λ b. b == 10) text) refl
+
+-- what a text without a fault says
+pub says_job : (built : Bool) (text : List ℕ) → text_fault built text ≡ None → SaysJob (job_said built text) text
+says_job built text h =
+    let s = sound built (lines_of text) first_draft 1 (has_rest text) [] (in_head at_start) h in
+    let n = line_count (reader_of built) first_draft (lines_of text) in
+    let f = front_of text in
+    let lines : lines_of text ≡ job_lines (job_said built text) ++ drop n (lines_of text) = sym (take-append-drop n (lines_of text)) ∙ ap (λ (ls : List (List (List ℕ))). ls ++ drop n (lines_of text)) s.lines in
+    record {
+      good = s.good;
+      rest = text_of (drop n (lines_of text)) ++ f.behind;
+      spelled =
+          f.whole
+          ∙ ap (λ (ls : List (List (List ℕ))). text_of ls ++ f.behind) lines
+          ∙ ap (λ (t : List ℕ). t ++ f.behind) (text_of-append (job_lines (job_said built text)) (drop n (lines_of text)))
+          ∙ append_assoc (job_text (job_said built text)) (text_of (drop n (lines_of text))) f.behind;
+    }
+
+-- no text of a job begins as that of another
+pub one_job : (v w : Written) (a b : List ℕ) → IsGoodWritten v → IsGoodWritten w → job_text v ++ a ≡ job_text w ++ b → v ≡ w
+one_job v w a b g h e = sym (job_is_said false v a (job_text v ++ a) g (λ t. absurd (cc)) refl) ∙ job_is_said false w b (job_text v ++ a) h (λ t. absurd (cc)) e
+
+pub read_back : (built : Bool) (w : Written) (rest : List ℕ) → IsGoodWritten w → (built ≡ true → IsBuilt w) → IsReadBack built w rest
+read_back built w rest g b = record { no_fault = job_fault built w rest (job_text w ++ rest) g b refl; said = job_is_said built w rest (job_text w ++ rest) g b refl }

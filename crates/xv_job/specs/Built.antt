@@ -1,6 +1,6 @@
 -- The jobs that are built so far: in job format 1, with one stream, regions of one block and one round, without a cancel
 -- number and planned faults, and one guest that writes blocks and reads from them.
-use Rattle.std.specs.Prelude.{◌≡◌, ◌<◌, ℕ, nat_lt, not, Bool, true, false, List, [], ◌∷◌, length, get_or, codes, Option, Some, None}
+use Rattle.std.specs.Prelude.{◌≡◌, ◌<◌, ℕ, nat_lt, Bool, true, false, List, [], length, get_or, codes, Option, Some, None}
 use Rattle.xv_trace.specs.declared.op.Op.{Op}
 use Rattle.xv_trace.specs.declared.op.Op.TheVariants.{Store, Load, Write, Fetch}
 use Rattle.xv_base.specs.declared.text.LineWhy.{LineWhy}

@@ -1,5 +1,5 @@
 -- A job as far as its lines have been read; what is wrong with a line, and the draft after it.
-use Rattle.std.specs.Prelude.{ℕ, ◌+◌, ◌-◌, ◌*◌, ◌^◌, ◌==◌, ◌&&◌, ◌||◌, nat_lt, nat_le, not, Bool, true, false, List, [], ◌∷◌, ◌++◌, length, get_or, take, drop, sum_by, codes, Option, Some, None, if◌then◌else◌}
+use Rattle.std.specs.Prelude.{ℕ, ◌+◌, ◌-◌, ◌^◌, ◌==◌, ◌&&◌, ◌||◌, nat_lt, nat_le, not, Bool, true, false, List, [], ◌∷◌, ◌++◌, length, get_or, take, sum_by, codes, Option, Some, None, if◌then◌else◌}
 use Rattle.std.specs.List.{list_any}
 use Rattle.xv_base.specs.declared.text.LineWhy.{LineWhy}
 use Rattle.xv_base.specs.declared.text.LineWhy.TheVariants.{BadWord, Order, Limit, OutOfRange, TooMany}
@@ -7,14 +7,10 @@ use Rattle.xv_base.specs.declared.limits.Config.{Config}
 use Rattle.xv_base.specs.declared.limits.Fault.{Fault}
 use Rattle.xv_base.specs.declared.limits.Fault.TheVariants.{SourceRead, SourceWrite, DestRead, DestWrite, Flush, Put, Take, AckPut, AckTake}
 use Rattle.xv_base.specs.declared.pattern.Init.{Init}
-use Rattle.xv_base.specs.declared.unit.DiskShape.{DiskShape}
 use Rattle.xv_base.specs.Units.{Shape, units, all_bytes}
 use Rattle.xv_base.specs.Layout.{is_unit_size}
-use Rattle.xv_text.specs.declared.row.Kind.{Kind}
-use Rattle.xv_text.specs.declared.row.Kind.TheVariants.{Number}
-use Rattle.xv_text.specs.Fields.{Values, values, number_at, fields_fault, or_else, fault_if, is_empty}
+use Rattle.xv_text.specs.Fields.{Values, values, number_at, fields_fault, or_else, fault_if}
 use Rattle.xv_text.specs.Reading.{Reader}
-use Rattle.xv_trace.specs.declared.op.Verb.{Verb}
 use Rattle.xv_trace.specs.declared.op.Op.{Op}
 use Rattle.xv_trace.specs.Operations.{op_fault, op_count, count_all}
 use Rattle.xv_trace.specs.OpText.{is_word, kinds_of, op_of, head, tail}

@@ -1,13 +1,11 @@
 -- A draft as the reader holds it, and what is refused of a line whose word may come.
-use Rattle.std.specs.Prelude.{◌≡◌, ◌≤◌, ◌&&◌, ℕ, Bool, false, List, [], ◌∷◌, length, map, Option, Some, None, sum_by}
-use Rattle.std.specs.List.{AllByRecursion}
+use Rattle.std.specs.Prelude.{◌≡◌, ◌&&◌, ℕ, Bool, false, List, [], ◌∷◌, Option, Some, None}
 use Rattle.xv_base.specs.declared.text.LineWhy.{LineWhy}
 use Rattle.xv_base.specs.declared.text.LineWhy.TheVariants.{Unbuilt, Limit}
 use Rattle.xv_base.specs.declared.layout.LayoutFault.{LayoutFault}
 use Rattle.xv_base.specs.declared.layout.LayoutFault.TheVariants.{NoPage, BadSize, TooManyUnits, TooManyBytes}
 use Rattle.xv_base.specs.Units.{Shape, shape_of}
 use Rattle.xv_text.specs.Fields.{or_else, fault_if}
-use Rattle.xv_trace.specs.Operations.{count_all}
 use Rattle.xv_job.specs.declared.word.Word.{Word}
 use Rattle.xv_job.specs.declared.held.Held.{Held}
 use Rattle.xv_job.specs.declared.held.Stop.{Stop}

@@ -7,6 +7,7 @@ use Rattle.xv_base.specs.declared.limits.Fault.{Fault}
 use Rattle.xv_base.specs.declared.limits.Fault.TheVariants.{SourceRead, SourceWrite, DestRead, DestWrite, Flush, Put, Take, AckPut, AckTake}
 use Rattle.xv_base.specs.declared.pattern.Init.{Init}
 use Rattle.xv_base.specs.Hex.{hex}
+use Rattle.xv_base.specs.Units.{Shape}
 use Rattle.xv_text.specs.Lines.{text_of}
 use Rattle.xv_trace.specs.declared.op.Op.{Op}
 use Rattle.xv_trace.specs.OpText.{op_fields}
@@ -43,11 +44,14 @@ init_fields i = codes "init" ∷ decimal i.unit.0 ∷ hex i.pattern ∷ []
 abbrev pub guest_lines : List Op → List (List (List ℕ))
 guest_lines ops = (codes "guest" ∷ []) ∷ map op_fields ops
 
+abbrev pub machine_of : ℕ → Shape → List (List (List ℕ))
+machine_of format shape =
+    (codes "job" ∷ decimal format ∷ [])
+    ∷ (codes "pages" ∷ decimal shape.pages ∷ decimal shape.page_size ∷ [])
+    ∷ map disk_fields shape.disks
+
 abbrev pub machine_lines : Written → List (List (List ℕ))
-machine_lines w =
-    (codes "job" ∷ decimal w.format ∷ [])
-    ∷ (codes "pages" ∷ decimal w.shape.pages ∷ decimal w.shape.page_size ∷ [])
-    ∷ map disk_fields w.shape.disks
+machine_lines w = machine_of w.format w.shape
 
 abbrev pub limit_lines : Config → List (List (List ℕ))
 limit_lines config =

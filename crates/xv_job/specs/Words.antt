@@ -1,5 +1,5 @@
 -- The words that lines of a job begin with, what follows each, and which may come where.
-use Rattle.std.specs.Prelude.{ℕ, ◌+◌, ◌==◌, ◌&&◌, ◌||◌, nat_lt, nat_le, not, Bool, true, false, List, [], ◌∷◌, codes, Option, Some, None, option_map, if◌then◌else◌}
+use Rattle.std.specs.Prelude.{ℕ, ◌+◌, ◌==◌, ◌&&◌, ◌||◌, nat_lt, nat_le, not, Bool, true, false, List, [], ◌∷◌, codes, Option, Some, None, if◌then◌else◌}
 use Rattle.xv_text.specs.declared.row.Kind.{Kind}
 use Rattle.xv_text.specs.declared.row.Kind.TheVariants.{Number, Bytes}
 use Rattle.xv_trace.specs.declared.op.Verb.{Verb}

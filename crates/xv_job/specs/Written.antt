@@ -8,7 +8,7 @@ use Rattle.xv_base.specs.declared.limits.Fault.TheVariants.{SourceRead, SourceWr
 use Rattle.xv_base.specs.declared.pattern.Init.{Init}
 use Rattle.xv_base.specs.Units.{Shape}
 use Rattle.xv_trace.specs.declared.op.Op.{Op}
-use Rattle.xv_trace.specs.Operations.{all_unit_operations, count_all, no_op}
+use Rattle.xv_trace.specs.Operations.{all_unit_operations, no_op}
 use Rattle.xv_trace.specs.OpText.{IsGoodOp, Program}
 use Rattle.xv_text.specs.Fields.{IsPattern}
 use Rattle.xv_model.specs.Job.{Job, IsGoodJob, no_init}

@@ -83,12 +83,7 @@ impl Held {
     }
 
     /// Reads the number of a limit.
-    pub(crate) fn take_limit(
-        &mut self,
-        word: Word,
-        args: &Fields,
-        built: bool,
-    ) -> Result<(), Stop>
+    pub(crate) fn take_limit(&mut self, word: Word, args: &Fields, built: bool) -> Result<(), Stop>
         requires consistent { IsConsistent self.old }
         requires limit { is_limit word ≡ true }
         ensures taken { OnOk result (IsTaken built word args.now self.old self.new) }

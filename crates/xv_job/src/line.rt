@@ -15,13 +15,7 @@ use xv_text::{Fields, first_field};
 
 impl Held {
     /// Reads what follows a word that may come.
-    fn take(
-        &mut self,
-        alloc: Global,
-        word: Word,
-        args: &Fields,
-        built: bool,
-    ) -> Result<(), Stop>
+    fn take(&mut self, alloc: Global, word: Word, args: &Fields, built: bool) -> Result<(), Stop>
         requires consistent { IsConsistent self.old }
         requires reached { IsReached (draft_held self.old) }
         requires comes { may_come self.old.format self.old.last word ≡ true }
@@ -50,12 +44,7 @@ impl Held {
     }
 
     /// Reads a line.
-    pub(crate) fn read_line(
-        &mut self,
-        alloc: Global,
-        line: &[u8],
-        built: bool,
-    ) -> Result<(), Stop>
+    pub(crate) fn read_line(&mut self, alloc: Global, line: &[u8], built: bool) -> Result<(), Stop>
         requires consistent { IsConsistent self.old }
         requires reached { IsReached (draft_held self.old) }
         requires more { is_complete (draft_held self.old) ≡ false }

@@ -4,7 +4,7 @@ ghost use Rattle.std.specs.Prelude.{◌≡◌, ◌≤◌, ◌++◌, ◌∷◌, [
 ghost use Rattle.std.specs.List.{flat_map};
 ghost use Rattle.xv_text.specs.Lines.{line, text_of};
 ghost use Rattle.xv_job.specs.Written.{IsGoodWritten, ops_held};
-ghost use Rattle.xv_job.specs.JobText.{job_text, fault_fields, init_fields, disk_fields, guest_lines, limit_lines, cancel_lines, group_line};
+ghost use Rattle.xv_job.specs.JobText.{job_text, fault_fields, init_fields, disk_fields, guest_lines, limit_lines, cancel_lines, group_line, machine_of};
 
 use crate::job::Job;
 use std::alloc::Global;
@@ -33,16 +33,42 @@ pub fn print_job(alloc: Global, job: &Job, out: &mut Vec<u8>) -> Result<(), NoMe
 fn print_lines(job: &Job, out: &mut Vec<u8>) -> Result<(), NoMemory>
     ensures { OnOk result (out.new.items ≡ out.old.items ++ job_text job.now) }
 {
-    push_line(out, b"job", &[u32::from(job.format)])?;
-    push_line(out, b"pages", &[job.layout.pages(), job.layout.page_size()])?;
-    print_disks(&job.layout, out)?;
-    print_limits(&job.config, out)?;
-    print_group(job.format, job.group, out)?;
-    print_cancel(job.config.cancel, out)?;
-    print_faults(&job.faults, out)?;
-    print_init(&job.init, out)?;
+    print_machine(job.format, &job.layout, out)?;
+    print_settings(job.format, job.group, &job.config, out)?;
+    print_contents(&job.faults, &job.init, out)?;
     print_traces(&job.traces, out)?;
     push_line(out, b"end", &[])
+}
+
+/// Appends the lines of the job format and of the machine.
+fn print_machine(format: u8, layout: &Layout, out: &mut Vec<u8>) -> Result<(), NoMemory>
+    ensures { OnOk result (out.new.items ≡ out.old.items ++ text_of (machine_of format layout.now)) }
+{
+    push_line(out, b"job", &[u32::from(format)])?;
+    push_line(out, b"pages", &[layout.pages(), layout.page_size()])?;
+    print_disks(layout, out)
+}
+
+/// Appends the lines of the limits, of the group and of the cancel number.
+fn print_settings(
+    format: u8,
+    group: u32,
+    config: &Config,
+    out: &mut Vec<u8>,
+) -> Result<(), NoMemory>
+    ensures { OnOk result (out.new.items ≡ out.old.items ++ text_of (limit_lines config.now ++ (group_line format group ++ cancel_lines config.now.cancel))) }
+{
+    print_limits(config, out)?;
+    print_group(format, group, out)?;
+    print_cancel(config.cancel, out)
+}
+
+/// Appends the lines of the planned faults and of the first contents.
+fn print_contents(faults: &[Fault], init: &[Init], out: &mut Vec<u8>) -> Result<(), NoMemory>
+    ensures { OnOk result (out.new.items ≡ out.old.items ++ text_of (map fault_fields faults.now ++ map init_fields init.now)) }
+{
+    print_faults(faults, out)?;
+    print_init(init, out)
 }
 
 /// Appends the lines of the disks.
@@ -50,7 +76,11 @@ fn print_disks(layout: &Layout, out: &mut Vec<u8>) -> Result<(), NoMemory>
     ensures { OnOk result (out.new.items ≡ out.old.items ++ text_of (map disk_fields layout.now.disks)) }
 {
     for disk in 0..layout.disks() {
-        push_line(out, b"disk", &[layout.blocks(disk), layout.block_size(disk)])?;
+        push_line(
+            out,
+            b"disk",
+            &[layout.blocks(disk), layout.block_size(disk)],
+        )?;
     }
     Ok(())
 }

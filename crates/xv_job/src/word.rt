@@ -199,13 +199,7 @@ fn needed(format: u8, last: u8) -> u8
         0..=1 => last + 1,
         2..=3 => 4,
         4..=8 => last + 1,
-        9 => {
-            if format == 2 {
-                10
-            } else {
-                14
-            }
-        }
+        9 => { if format == 2 { 10 } else { 14 } }
         10..=13 => 14,
         _ => 15,
     }

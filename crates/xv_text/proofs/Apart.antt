@@ -1,9 +1,9 @@
 -- What is put together as lines of fields is taken apart into the same, and what is taken apart is put together again.
-use Rattle.std.proofs.Common.{◌≡◌, ◌==◌, ℕ, zero, suc, ◌+◌, ◌<◌, ◌≤◌, ◌^◌, Bool, true, false, ◌||◌, List, [], ◌∷◌, ◌++◌, length, map, get_or, decimal, refl, sym, ap, ◌∙◌, arith, append_assoc, inl, inr, if◌then◌else◌}
+use Rattle.std.proofs.Common.{◌≡◌, ◌==◌, ℕ, ◌<◌, ◌^◌, Bool, true, false, List, [], ◌∷◌, ◌++◌, length, map, decimal, refl, sym, ap, ◌∙◌, arith, append_assoc, inl, inr}
 use Rattle.std.specs.Char.{is_ascii_digit}
-use Rattle.std.specs.List.{list_any, list_all, flat_map}
-use Rattle.std.proofs.lemmas.Bool.{cases_Bool, or_parts, or_from, eqb-true, eq-eqb, false_from_ne_true, and_parts}
-use Rattle.std.proofs.lemmas.List.{append-nil, length-append}
+use Rattle.std.specs.List.{list_any, list_all}
+use Rattle.std.proofs.lemmas.Bool.{cases_Bool, or_parts, or_from, eqb-true, false_from_ne_true, and_parts}
+use Rattle.std.proofs.lemmas.List.{append-nil}
 use Rattle.std.proofs.lemmas.List.Concat.{flat_map-append}
 use Rattle.xv_base.specs.Hex.{hex}
 use Rattle.xv_text.specs.Lines.{before_first, whole_lines, has_rest, fields, line, text_of, lines_of}

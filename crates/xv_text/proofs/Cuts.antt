@@ -1,8 +1,7 @@
 -- A text is cut into lines, and a line into fields, at the first byte of a kind.
-use Rattle.std.proofs.Common.{◌≡◌, ◌==◌, ◌<◌, ◌≤◌, ℕ, zero, suc, ◌+◌, ◌-◌, Bool, true, false, not, List, [], ◌∷◌, ◌++◌, length, take, drop, get_or, drop-cons, Option, Some, None, position, refl, sym, ap, ◌∙◌, arith, nat_lt, if◌then◌else◌, add-one, inl, inr, rules, IfSome, IfNone, IsTrue}
-use Rattle.std.specs.List.{list_any, position_or_len}
-use Rattle.std.proofs.lemmas.Bool.{cases_Bool, or_parts, or_from, or_left, false_from_ne_true, or_right, eq-eqb, eqb-true, cases_lt, lt-ltb, le-ltb}
-use Rattle.std.proofs.lemmas.Bool.Decides.{nat_tests}
+use Rattle.std.proofs.Common.{◌≡◌, ◌==◌, ◌<◌, ◌≤◌, ℕ, suc, ◌+◌, ◌-◌, Bool, true, false, not, List, [], ◌∷◌, ◌++◌, length, take, drop, get_or, drop-cons, Option, Some, None, refl, sym, ap, ◌∙◌, arith, if◌then◌else◌, add-one, inl, inr, IfSome, IfNone, IsTrue}
+use Rattle.std.specs.List.{list_any}
+use Rattle.std.proofs.lemmas.Bool.{cases_Bool, or_parts, or_from, or_left, false_from_ne_true, or_right, eq-eqb, eqb-true}
 use Rattle.std.proofs.lemmas.List.{length-append, length-take-le, take-append-drop, get_or-take}
 use Rattle.memchr.specs.Find.{NoneBefore, Nowhere, Passes, is_byte}
 use Rattle.std.proofs.lemmas.Slice.{between_to_end}

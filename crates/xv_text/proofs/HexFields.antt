@@ -1,14 +1,13 @@
 -- Fields that say bytes: two hexadecimal digits a byte.
-use Rattle.std.proofs.Common.{◌≡◌, ◌==◌, ℕ, zero, suc, ◌+◌, ◌-◌, ◌*◌, ◌/◌, ◌%◌, ◌^◌, ◌<◌, ◌≤◌, Bool, true, false, ◌&&◌, ◌||◌, not, List, [], ◌∷◌, ◌++◌, length, take, set, get_or, nat_lt, nat_le, if◌then◌else◌, refl, sym, ap, ◌∙◌, arith, rules, inl, inr, ◌⊎◌, append_assoc}
-use Rattle.std.specs.Char.{is_ascii_digit}
+use Rattle.std.proofs.Common.{◌≡◌, ◌==◌, ℕ, zero, suc, ◌+◌, ◌*◌, ◌/◌, ◌%◌, ◌<◌, ◌≤◌, Bool, true, false, List, [], ◌∷◌, ◌++◌, length, take, set, get_or, nat_le, if◌then◌else◌, refl, sym, ap, ◌∙◌, arith, inl, inr, ◌⊎◌, append_assoc}
 use Rattle.std.specs.List.{list_all}
-use Rattle.std.proofs.lemmas.Bool.{and_parts, and_from, ltb-true, lt-ltb, eqb-true, eq-eqb, leb-true, le-leb, cases_Bool, false_from_ne_true}
+use Rattle.std.proofs.lemmas.Bool.{and_parts, and_from, eqb-true, eq-eqb, leb-true, le-leb, false_from_ne_true}
 use Rattle.std.proofs.lemmas.Bool.Decides.{nat_tests}
-use Rattle.std.proofs.lemmas.List.{take_more, take_more_set, length-append, length-take-le}
+use Rattle.std.proofs.lemmas.List.{take_more, take_more_set, length-take-le}
 use Rattle.xv_base.specs.Hex.{hex, hex_digit}
 use Rattle.xv_text.specs.Fields.{is_hex, is_hex_digit, hex_value, hex_bytes, IsPattern}
 use Rattle.xv_base.proofs.Hexes.{length-hex}
-use Rattle.xv_text.proofs.Numbers.{all_four, from_four, passes_at, all_more}
+use Rattle.xv_text.proofs.Numbers.{all_four, from_four, all_more}
 
 -- what digits stand for
 pub hex_value_small : (d : ℕ) → is_hex_digit d ≡ true → hex_value d < 16

@@ -1,10 +1,10 @@
 -- Fields that are read by their kinds, one after another.
-use Rattle.std.proofs.Common.{◌≡◌, ◌==◌, ℕ, zero, suc, ◌+◌, ◌<◌, ◌≤◌, Bool, true, false, ◌||◌, not, List, [], ◌∷◌, ◌++◌, length, take, drop, get_or, Option, Some, None, refl, sym, ap, ◌∙◌, arith, append_assoc, if◌then◌else◌, inl, inr, ◌⊎◌, IfNone, ◌^◌, subst}
+use Rattle.std.proofs.Common.{◌≡◌, ◌==◌, ℕ, zero, suc, ◌+◌, ◌<◌, ◌≤◌, Bool, true, false, not, List, [], ◌∷◌, ◌++◌, length, take, get_or, Option, Some, None, refl, sym, ap, ◌∙◌, arith, append_assoc, if◌then◌else◌, inl, inr, ◌⊎◌, IfNone, ◌^◌, subst}
 use Rattle.std.specs.List.{list_any}
-use Rattle.std.proofs.lemmas.Bool.{cases_Bool, or_parts, or_from, or_right, not_from_false, eq-eqb, eqb-true, not-false, not_from_true}
+use Rattle.std.proofs.lemmas.Bool.{cases_Bool, or_parts, or_from, eq-eqb, eqb-true, not-false, not_from_true}
 use Rattle.std.proofs.lemmas.List.{take_more, length-append, take_at, length-take-le, append-nil, take_all}
 use Rattle.xv_base.specs.declared.text.LineWhy.{LineWhy}
-use Rattle.xv_base.specs.declared.text.LineWhy.TheVariants.{BadWord, BadNumber, BadHex}
+use Rattle.xv_base.specs.declared.text.LineWhy.TheVariants.{BadNumber, BadHex}
 use Rattle.xv_text.specs.declared.row.Kind.{Kind}
 use Rattle.xv_text.specs.declared.row.Kind.TheVariants.{Number, Bytes}
 use Rattle.xv_text.specs.Fields.{Values, values, with_field, kinds_fault, field_fault, fields_fault, or_else, fault_if, is_empty, hex_bytes, is_hex, is_number, IsPattern, number_at}

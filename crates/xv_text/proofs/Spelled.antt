@@ -1,19 +1,18 @@
 -- The fields that spell a row, by their kinds.
-use Rattle.std.proofs.Common.{◌≡◌, ℕ, zero, suc, ◌+◌, ◌<◌, ◌≤◌, ◌^◌, Bool, true, false, ◌||◌, not, List, [], ◌∷◌, ◌++◌, length, drop, map, get_or, decimal, Option, None, refl, sym, ap, ◌∙◌, arith, if◌then◌else◌, drop-cons, add-one, add-zero}
+use Rattle.std.proofs.Common.{◌≡◌, ℕ, suc, ◌+◌, ◌<◌, Bool, true, false, not, List, [], ◌∷◌, length, drop, decimal, None, refl, sym, ap, ◌∙◌, arith, if◌then◌else◌, drop-cons, add-one, add-zero}
 use Rattle.std.specs.List.{list_any}
 use Rattle.std.proofs.lemmas.Bool.{or_from}
 use Rattle.std.proofs.lemmas.Fmt.{decimal_nonempty}
 use Rattle.std.proofs.lemmas.List.{drop_all}
-use Rattle.xv_base.specs.declared.text.LineWhy.{LineWhy}
 use Rattle.xv_base.specs.Hex.{hex}
 use Rattle.xv_base.proofs.Hexes.{length-hex}
 use Rattle.xv_text.specs.declared.row.Kind.{Kind}
 use Rattle.xv_text.specs.declared.row.Kind.TheVariants.{Number, Bytes}
-use Rattle.xv_text.specs.Fields.{Values, values, number_at, with_field, number, hex_bytes, kinds_fault, field_fault, fields_fault, is_empty, IsPattern}
+use Rattle.xv_text.specs.Fields.{Values, values, number_at, with_field, number, hex_bytes, kinds_fault, field_fault, fields_fault, is_empty}
 use Rattle.xv_text.specs.Row.{is_bytes, IsRow}
 use Rattle.xv_text.proofs.Numbers.{number_decimal, decimal_number, number-decimal}
 use Rattle.xv_text.proofs.HexFields.{bytes_hex, hex-is_hex, hex_bytes-hex}
-use Rattle.xv_text.proofs.Rows.{AreOfKinds, fields_parts, fields_from, none_of_both, is_number_field, is_hex_field, not_empty}
+use Rattle.xv_text.proofs.Rows.{fields_parts, fields_from, none_of_both, is_number_field, is_hex_field, not_empty}
 use Rattle.xv_text.proofs.Apart.{ArePlain, decimal_plain, hex_plain}
 
 -- the fields of these kinds that say a row, its numbers from number i on

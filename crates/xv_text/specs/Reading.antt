@@ -1,8 +1,10 @@
 -- How a text of lines is refused: by its first faulty line.
-use Rattle.std.specs.Prelude.{ℕ, ◌+◌, ◌&&◌, Bool, true, false, List, [], ◌∷◌, Option, Some, None, if◌then◌else◌}
+use Rattle.std.specs.Prelude.{ℕ, ◌+◌, ◌&&◌, Bool, true, List, [], ◌∷◌, Option, Some, None, Result, Ok, Err, if◌then◌else◌}
 use Rattle.xv_base.specs.declared.text.LineWhy.{LineWhy}
 use Rattle.xv_base.specs.declared.text.LineWhy.TheVariants.{Unended, Order}
 use Rattle.xv_base.specs.declared.text.LineFault.{LineFault}
+use Rattle.xv_base.specs.declared.text.TextError.{TextError}
+use Rattle.xv_base.specs.declared.text.TextError.TheVariants.{Fault, NoMemory}
 
 -- What reads lines, each given as its fields, in states: in which states the text is at its end, what is wrong with a
 -- line, and the state after a line.
@@ -39,3 +41,9 @@ last_state r s (l ∷ ls) = if r.is_ended s then s else last_state r (r.next s l
 abbrev pub line_count : {S : Type 0} → Reader S → S → List (List (List ℕ)) → ℕ
 line_count r s [] = 0
 line_count r s (l ∷ ls) = if r.is_ended s then 0 else line_count r (r.next s l) ls + 1
+
+-- P of the fault of a text that is not read; want of memory is no fault of the text
+abbrev pub IfFault : {A : Type 0} → Result A TextError → (LineFault → Type 0) → Type 0
+IfFault (Ok found) P = Unit {0}
+IfFault (Err NoMemory) P = Unit {0}
+IfFault (Err (Fault fault)) P = P fault

@@ -1,14 +1,10 @@
 -- Where an operation without a fault acts.
-use Rattle.std.proofs.Common.{◌≡◌, ◌==◌, ◌||◌, ℕ, zero, suc, ◌+◌, ◌-◌, ◌*◌, ◌/◌, ◌%◌, ◌<◌, ◌≤◌, Bool, true, false, List, [], ◌∷◌, length, Option, Some, None, nat_le, nat_lt, refl, sym, ap, ◌∙◌, arith}
-use Rattle.std.proofs.lemmas.Bool.{or_parts, or_from, leb-false, ltb-false, eqb-false, lt-leb, le-ltb}
+use Rattle.std.proofs.Common.{◌≡◌, ◌==◌, ◌||◌, ℕ, ◌+◌, ◌*◌, ◌%◌, ◌<◌, ◌≤◌, Bool, true, false, List, length, None, nat_le, nat_lt, refl, arith}
+use Rattle.std.proofs.lemmas.Bool.{or_parts, leb-false, ltb-false}
 use Rattle.std.proofs.lemmas.Bool.Decides.{nat_tests}
-use Rattle.xv_base.specs.declared.text.LineWhy.{LineWhy}
-use Rattle.xv_base.specs.declared.text.LineWhy.TheVariants.{OutOfRange, CrossesPage}
 use Rattle.xv_base.specs.Units.{Shape, blocks, block_size}
-use Rattle.xv_text.specs.Fields.{or_else, fault_if}
 use Rattle.xv_text.proofs.Rows.{none_of_both, no_fault_if}
-use Rattle.xv_trace.specs.declared.op.Op.{Op}
-use Rattle.xv_trace.specs.declared.op.Op.TheVariants.{Store, Load, Write, Fetch}
+use Rattle.xv_trace.specs.declared.op.Op.TheVariants.{Write, Fetch}
 use Rattle.xv_trace.specs.Operations.{memory_fault, op_fault}
 
 some_of : (n : ℕ) → (n == 0) ≡ false → 0 < n

@@ -1,14 +1,12 @@
 -- How many unit operations there are, and which one has a number.
 use Rattle.std.proofs.lemmas.Bool.{cases_lt}
-use Rattle.std.proofs.Common.{◌≡◌, inl, inr, ℕ, zero, suc, ◌+◌, ◌-◌, ◌<◌, ◌≤◌, List, [], ◌∷◌, ◌++◌, length, take, get_or, Some, refl, sym, ap, ◌∙◌, arith, add-one}
-use Rattle.std.specs.List.{flat_map}
-use Rattle.std.proofs.lemmas.List.{length-append, get_or_append_left, get_or-append_right, take_more}
+use Rattle.std.proofs.Common.{◌≡◌, inl, inr, ℕ, zero, suc, ◌+◌, ◌-◌, ◌<◌, ◌≤◌, List, [], ◌∷◌, ◌++◌, length, take, get_or, Some, refl, ap, ◌∙◌, arith}
+use Rattle.std.proofs.lemmas.List.{length-append, get_or_append_left, get_or-append_right}
 use Rattle.std.proofs.lemmas.List.Sums.{sum_by-append, sum_by-cons}
 use Rattle.xv_base.specs.Units.{Shape, unit_of_block, block_size}
-use Rattle.xv_base.specs.declared.pattern.UnitOp.{UnitOp}
 use Rattle.xv_trace.specs.declared.op.Op.{Op}
 use Rattle.xv_trace.specs.declared.op.Op.TheVariants.{Store, Load, Write, Fetch}
-use Rattle.xv_trace.specs.Operations.{unit_operations, all_unit_operations, block_writes, part_of, op_count, count_all, no_op, no_unit_op}
+use Rattle.xv_trace.specs.Operations.{unit_operations, all_unit_operations, block_writes, part_of, op_count, count_all, no_unit_op}
 
 pub count_all-cons : (op : Op) (ops : List Op) → count_all (op ∷ ops) ≡ op_count op + count_all ops
 count_all-cons op ops = sum_by-cons op_count op ops

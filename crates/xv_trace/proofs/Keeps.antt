@@ -1,12 +1,11 @@
 -- What a trace keeps when an operation is appended, and where a unit operation is found.
 use Rattle.std.proofs.Common.{◌≡◌, ℕ, zero, suc, ◌+◌, ◌-◌, ◌^◌, ◌<◌, ◌≤◌, List, [], ◌∷◌, ◌++◌, length, take, get_or, refl, sym, ap, ◌∙◌, arith, inl, inr, subst}
 use Rattle.std.proofs.lemmas.Bool.{cases_lt}
-use Rattle.std.proofs.lemmas.List.{length-append, get_or_append_left, get_or-append_right, take_at, take_all, take-append-le, take_more}
+use Rattle.std.proofs.lemmas.List.{length-append, get_or_append_left, get_or-append_right, take_at, take_all, take-append-le}
 use Rattle.xv_base.specs.Units.{Shape}
-use Rattle.xv_base.specs.declared.pattern.UnitOp.{UnitOp}
 use Rattle.xv_trace.specs.declared.op.Op.{Op}
 use Rattle.xv_trace.specs.Operations.{unit_operations, all_unit_operations, op_count, count_all, no_op, no_unit_op}
-use Rattle.xv_trace.specs.OpText.{Program, IsProgram, IsGoodOp}
+use Rattle.xv_trace.specs.OpText.{Program, IsGoodOp}
 use Rattle.xv_trace.specs.Kept.{IsKept}
 use Rattle.xv_trace.proofs.Counts.{count_all-push, unit_operation_at}
 

@@ -1,17 +1,12 @@
 -- An operation's line says it, and a line without a fault is the line of the operation that it says.
-use Rattle.std.proofs.Common.{◌≡◌, ℕ, zero, suc, ◌+◌, ◌<◌, ◌≤◌, ◌^◌, Bool, true, false, List, [], ◌∷◌, ◌++◌, length, get_or, codes, decimal, Option, Some, None, refl, sym, ap, ◌∙◌, arith, inl, inr, if◌then◌else◌, nat_eq, nat_lt, subst}
-use Rattle.std.specs.Cmp.Lexicographic.{pointwise, bytes_decides}
+use Rattle.std.proofs.Common.{◌≡◌, ℕ, zero, suc, ◌<◌, ◌≤◌, ◌^◌, true, List, [], ◌∷◌, length, get_or, codes, Option, Some, None, refl, sym, ap, ◌∙◌, arith, inl, inr, subst}
+use Rattle.std.specs.Cmp.Lexicographic.{bytes_decides}
 use Rattle.std.proofs.lemmas.Bool.{cases_Bool, le-ltb, ltb-false}
-use Rattle.xv_base.specs.declared.text.LineWhy.{LineWhy}
-use Rattle.xv_base.specs.declared.text.LineWhy.TheVariants.{BadWord, TooMany}
 use Rattle.xv_base.specs.Units.{Shape}
-use Rattle.xv_base.specs.Hex.{hex}
-use Rattle.xv_text.specs.declared.row.Kind.{Kind}
-use Rattle.xv_text.specs.declared.row.Kind.TheVariants.{Number, Bytes}
-use Rattle.xv_text.specs.Fields.{Values, values, number_at, fields_fault, or_else, fault_if, IsPattern}
-use Rattle.xv_text.specs.Row.{IsRow, is_bytes}
+use Rattle.xv_text.specs.Fields.{Values, values, fields_fault}
+use Rattle.xv_text.specs.Row.{IsRow}
 use Rattle.xv_text.proofs.Rows.{none_of_both, no_fault_if, values_row}
-use Rattle.xv_text.proofs.Apart.{IsPlain, ArePlain, IsPlainLine}
+use Rattle.xv_text.proofs.Apart.{IsPlain, IsPlainLine}
 use Rattle.xv_text.proofs.Spelled.{spelled, has_one_pattern, number_count, pattern_of, spelled-values, values-spelled, fields_fault-spelled, spelled_plain}
 use Rattle.xv_trace.specs.declared.op.Op.{Op}
 use Rattle.xv_trace.specs.declared.op.Op.TheVariants.{Store, Load, Write, Fetch}
@@ -19,7 +14,7 @@ use Rattle.xv_trace.specs.declared.op.Verb.{Verb}
 use Rattle.xv_trace.specs.declared.op.Verb.TheVariants.{Store as StoreVerb, Load as LoadVerb, Write as WriteVerb, Fetch as FetchVerb}
 use Rattle.xv_trace.specs.Operations.{op_fault, op_count}
 use Rattle.xv_trace.specs.Laws.{SaysOp, IsReadBack}
-use Rattle.xv_trace.specs.OpText.{is_word, verb_of, kinds_of, op_of, op_fields, verb_fault, verb_fault_or, op_line_fault, op_said, op_of_or_none, head, tail, CanBeSaid, IsGoodOp}
+use Rattle.xv_trace.specs.OpText.{is_word, verb_of, kinds_of, op_of, op_fields, verb_fault, verb_fault_or, op_line_fault, op_said, op_of_or_none, CanBeSaid, IsGoodOp}
 
 -- the word of an operation
 abbrev pub verb_word : Verb → List ℕ
@@ -28,7 +23,7 @@ verb_word LoadVerb = codes "ld"
 verb_word WriteVerb = codes "wr"
 verb_word FetchVerb = codes "rd"
 
-word_is : (spelling word : List ℕ) → is_word spelling word ≡ true → word ≡ spelling
+pub word_is : (spelling word : List ℕ) → is_word spelling word ≡ true → word ≡ spelling
 word_is spelling word h = sym ((bytes_decides spelling word).0 h)
 
 word_of : (word : List ℕ) (verb : Verb) → verb_of word ≡ Some verb → word ≡ verb_word verb

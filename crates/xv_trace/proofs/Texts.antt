@@ -1,17 +1,15 @@
 -- Texts of operations, line after line.
-use Rattle.std.proofs.Common.{◌≡◌, ℕ, zero, suc, ◌+◌, ◌-◌, ◌^◌, ◌<◌, ◌≤◌, min, Bool, true, false, not, List, [], ◌∷◌, ◌++◌, length, map, Option, Some, None, refl, sym, ap, ◌∙◌, arith, append_assoc, if◌then◌else◌}
+use Rattle.std.proofs.Common.{◌≡◌, ℕ, ◌+◌, ◌-◌, ◌^◌, ◌≤◌, min, Bool, true, false, List, [], ◌∷◌, ◌++◌, length, map, Some, None, refl, sym, ap, ◌∙◌, arith, append_assoc}
 use Rattle.std.proofs.lemmas.List.{append-nil, length-append, map-append}
 use Rattle.xv_base.specs.declared.text.LineWhy.{LineWhy}
 use Rattle.xv_base.specs.declared.text.LineWhy.TheVariants.{Unended}
-use Rattle.xv_base.specs.declared.text.LineFault.{LineFault}
 use Rattle.xv_base.specs.Units.{Shape}
 use Rattle.xv_text.specs.Lines.{fields, line, text_of, whole_lines, lines_of, has_rest}
-use Rattle.xv_text.specs.Fields.{is_empty}
 use Rattle.xv_text.specs.Reading.{at_line, at_line_or}
 use Rattle.xv_text.proofs.Apart.{line-fields, text_of-append}
 use Rattle.xv_trace.specs.declared.op.Op.{Op}
 use Rattle.xv_trace.specs.Operations.{op_count, count_all}
-use Rattle.xv_trace.specs.OpText.{op_fields, op_line_fault, op_said, ops_said, ops_fault, ops_text, capped, text_fault, text_said, IsGoodOp}
+use Rattle.xv_trace.specs.OpText.{op_fields, op_line_fault, op_said, ops_said, ops_fault, ops_text, capped, text_fault, text_said}
 use Rattle.xv_trace.proofs.Counts.{count_all-one, count_all-push}
 
 -- a text is read up to its rest: its operations so far, and what is still to be found out

@@ -1,12 +1,10 @@
 -- The unit operations of an operation that may act each act within one unit.
-use Rattle.std.proofs.Common.{◌≡◌, ℕ, zero, suc, ◌+◌, ◌-◌, ◌*◌, ◌/◌, ◌%◌, ◌<◌, ◌≤◌, Bool, true, false, List, [], ◌∷◌, length, get_or, Option, Some, None, is_some, IsTrue, refl, sym, ap, ◌∙◌, arith, if◌then◌else◌, inl, inr, subst}
+use Rattle.std.proofs.Common.{◌≡◌, ℕ, zero, suc, ◌+◌, ◌-◌, ◌/◌, ◌%◌, ◌<◌, ◌≤◌, true, false, List, [], ◌∷◌, length, get_or, Option, Some, None, is_some, refl, sym, ◌∙◌, arith, inl, inr, subst}
 use Rattle.std.proofs.Math.Nat.{div-lt_iff_lt-mul}
 use Rattle.std.proofs.lemmas.Bool.{cases_lt, lt-ltb, ltb-false}
 use Rattle.std.proofs.lemmas.List.{get_or_append_left, get_or-append_right}
 use Rattle.xv_base.specs.Layout.{IsGood}
-use Rattle.xv_base.specs.Laws.{PartitionsBytes, NumbersBlocks}
 use Rattle.xv_base.specs.Units.{Shape, units, size, is_page, blocks, block_size, unit_of_block}
-use Rattle.xv_base.specs.declared.pattern.UnitOp.{UnitOp}
 use Rattle.xv_base.proofs.Within.{good_within, unit_size_least}
 use Rattle.xv_base.proofs.Partition.{partitions_bytes, numbers_blocks}
 use Rattle.xv_text.proofs.Rows.{none_of_both, no_fault_if}

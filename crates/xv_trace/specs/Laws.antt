@@ -1,9 +1,8 @@
 -- What operations are to their lines, to their texts and to the units that they act on.
-use Rattle.std.specs.Prelude.{◌≡◌, ◌≤◌, ◌<◌, ℕ, ◌^◌, min, List, [], ◌∷◌, length, get_or, None}
-use Rattle.xv_base.specs.Layout.{IsGood}
+use Rattle.std.specs.Prelude.{◌≡◌, ◌≤◌, ◌<◌, ℕ, List, [], ◌∷◌, get_or, None}
 use Rattle.xv_base.specs.Units.{Shape}
 use Rattle.xv_trace.specs.declared.op.Op.{Op}
-use Rattle.xv_trace.specs.Operations.{op_count, count_all, no_op, unit_operations, all_unit_operations, no_unit_op, IsWithinUnit}
+use Rattle.xv_trace.specs.Operations.{op_count, count_all, all_unit_operations, no_unit_op, IsWithinUnit}
 use Rattle.xv_trace.specs.OpText.{op_fields, op_line_fault, op_said, ops_text, text_fault, text_said, IsGoodOp, Program, IsProgram}
 
 -- the line of an operation has no fault, and says it

@@ -1,18 +1,16 @@
 -- The text of operations, and how it is refused.
-use Rattle.std.specs.Prelude.{◌≡◌, ◌≤◌, ◌<◌, ℕ, ◌+◌, ◌-◌, ◌^◌, nat_eq, nat_lt, Bool, true, List, [], ◌∷◌, ◌++◌, length, get_or, codes, decimal, Option, Some, None, Result, Ok, Err, map, min, if◌then◌else◌}
+use Rattle.std.specs.Prelude.{◌≡◌, ◌≤◌, ◌<◌, ℕ, ◌+◌, ◌-◌, ◌^◌, nat_eq, nat_lt, Bool, List, [], ◌∷◌, length, get_or, codes, decimal, Option, Some, None, map, min, if◌then◌else◌}
 use Rattle.std.specs.Cmp.Lexicographic.{pointwise}
 use Rattle.std.specs.List.{flat_map}
 use Rattle.xv_base.specs.declared.text.LineWhy.{LineWhy}
 use Rattle.xv_base.specs.declared.text.LineWhy.TheVariants.{BadWord, TooMany, Unended}
 use Rattle.xv_base.specs.declared.text.LineFault.{LineFault}
-use Rattle.xv_base.specs.declared.text.TextError.{TextError}
-use Rattle.xv_base.specs.declared.text.TextError.TheVariants.{Fault, NoMemory}
 use Rattle.xv_base.specs.Layout.{IsGood}
 use Rattle.xv_base.specs.Units.{Shape}
 use Rattle.xv_base.specs.Hex.{hex}
 use Rattle.xv_text.specs.declared.row.Kind.{Kind}
 use Rattle.xv_text.specs.declared.row.Kind.TheVariants.{Number, Bytes}
-use Rattle.xv_text.specs.Lines.{line, text_of, lines_of, has_rest}
+use Rattle.xv_text.specs.Lines.{text_of, lines_of, has_rest}
 use Rattle.xv_text.specs.Fields.{Values, values, number_at, fields_fault, or_else, fault_if, IsPattern}
 use Rattle.xv_text.specs.Reading.{at_line, at_line_or}
 use Rattle.xv_trace.specs.declared.op.Op.{Op}
@@ -129,9 +127,3 @@ text_fault shape room first text = capped (ops_fault shape (min room (2 ^ 20)) f
 -- what a text of operations says
 abbrev pub text_said : List ℕ → List Op
 text_said text = ops_said (lines_of text)
-
--- P of the fault of a text that is not read; want of memory is no fault of the text
-abbrev pub IfFault : {A : Type 0} → Result A TextError → (LineFault → Type 0) → Type 0
-IfFault (Ok found) P = Unit {0}
-IfFault (Err NoMemory) P = Unit {0}
-IfFault (Err (Fault fault)) P = P fault

@@ -1,4 +1,10 @@
 // A guest's operations: their text, and the unit operations that they are.
+//
+// Contracts see a `Trace` as its program: the shape of the units that it acts on, and its operations. It keeps them
+// as they were read, one a line, so a write of many blocks takes no more memory than one of a single block, and it
+// finds the unit operation of a number by bisection. The layer above may rely on this: each operation of a trace
+// may act on its units, there are at most 2^20 unit operations, each acts within one unit, and operations and
+// their texts are read and printed both ways.
 #![tactic(auto)]
 
 mod laws;

@@ -4,7 +4,8 @@ ghost use Rattle.std.specs.Prelude.{◌≡◌, ◌≤◌, [], ◌∷◌, IfOk, I
 ghost use Rattle.xv_base.specs.declared.text.TextError.TheVariants.{Fault};
 ghost use Rattle.xv_text.specs.Lines.{fields};
 ghost use Rattle.xv_trace.specs.Operations.{op_count};
-ghost use Rattle.xv_trace.specs.OpText.{op_line_fault, op_said, ops_text, text_fault, text_said, IsGoodOp, IfFault};
+ghost use Rattle.xv_trace.specs.OpText.{op_line_fault, op_said, ops_text, text_fault, text_said, IsGoodOp};
+ghost use Rattle.xv_text.specs.Reading.{IfFault};
 
 use crate::op::Op;
 use crate::read::{read_op, verb_of};

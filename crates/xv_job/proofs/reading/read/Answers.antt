@@ -1,10 +1,10 @@
-use Rattle.std.proofs.Common.{◌≡◌, ◌+◌, ◌∙◌, ap, sym, subst, true, false, List, length, arith}
+use Rattle.std.proofs.Common.{◌≡◌, ◌+◌, ◌∙◌, ap, sym, true, false, length, arith}
 use Rattle.std.proofs.lemmas.Bool.Decides.{nat_tests}
 use Rattle.xv_job.specs.Draft.{is_complete}
 use Rattle.xv_job.specs.Held.{draft_held}
 use Rattle.xv_job.specs.JobText.{job_text, job_lines}
 use Rattle.xv_job.specs.Written.{Written}
-use Rattle.xv_job.proofs.Progress.{IsFinished, at_next, number_few, finished}
+use Rattle.xv_job.proofs.Progress.{at_next, number_few, finished}
 use Rattle.xv_job.proofs.reading.read.Goals as goal
 
 pub overflow_add-line : goal.overflow_add-line

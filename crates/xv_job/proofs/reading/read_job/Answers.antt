@@ -1,4 +1,4 @@
-use Rattle.xv_job.specs.Texts.{UnlessNoMemory}
+use Rattle.std.proofs.Common.{true}
 use Rattle.xv_job.proofs.Texts.{only_read, built_read}
 use Rattle.xv_job.proofs.reading.read_job.Goals as goal
 

@@ -1,4 +1,4 @@
-use Rattle.std.proofs.Common.{◌≡◌, ◌*◌, true, take, length}
+use Rattle.std.proofs.Common.{◌≡◌, ◌*◌, true, take}
 use Rattle.std.specs.List.{list_all}
 use Rattle.xv_text.specs.Fields.{is_hex_digit, hex_bytes}
 use Rattle.xv_text.proofs.digits.decode.Given as goal

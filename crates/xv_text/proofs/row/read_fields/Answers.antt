@@ -1,4 +1,4 @@
-use Rattle.std.proofs.Common.{refl, arith, sym}
+use Rattle.std.proofs.Common.{refl, arith}
 use Rattle.xv_text.proofs.Rows.{read_next, row_read, some_byte}
 use Rattle.xv_text.proofs.row.read_fields.Goals as goal
 

@@ -1,8 +1,8 @@
-use Rattle.std.proofs.Common.{◌≡◌, ◌+◌, ◌-◌, ◌^◌, ◌≤◌, min, [], ◌∷◌, ◌++◌, length, None, ap, ◌∙◌, arith}
+use Rattle.std.proofs.Common.{◌≡◌, ◌-◌, ◌^◌, ◌≤◌, min, [], ◌∷◌, length, None, ap, ◌∙◌, arith}
 use Rattle.std.proofs.lemmas.List.{length-append}
 use Rattle.xv_text.specs.Lines.{fields}
 use Rattle.xv_trace.specs.Operations.{op_count, count_all}
-use Rattle.xv_trace.specs.OpText.{Program, op_line_fault, op_said}
+use Rattle.xv_trace.specs.OpText.{Program, op_line_fault}
 use Rattle.xv_trace.proofs.OpLines.{spelled_by}
 use Rattle.xv_trace.proofs.Texts.{read_next}
 use Rattle.xv_trace.proofs.text.read_ops.Goals as goal

@@ -1,7 +1,6 @@
 use Rattle.std.proofs.Common.{◌∙◌, sym, ap, get_or, ◌<◌, subst}
 use Rattle.xv_trace.specs.Operations.{unit_operations, no_unit_op, op_count}
 use Rattle.xv_trace.specs.declared.op.Op.{Op}
-use Rattle.xv_trace.specs.declared.op.Op.TheVariants.{Write}
 use Rattle.xv_trace.proofs.Counts.{block_write_at}
 use Rattle.xv_trace.proofs.trace.part.Goals as goal
 

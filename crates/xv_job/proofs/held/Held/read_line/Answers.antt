@@ -1,4 +1,4 @@
-use Rattle.std.proofs.Common.{◌≡◌, arith, ◌∙◌, sym, true, None}
+use Rattle.std.proofs.Common.{◌≡◌, ◌∙◌, sym, true, None}
 use Rattle.xv_text.specs.Lines.{fields}
 use Rattle.xv_job.specs.Built.{fault_by}
 use Rattle.xv_job.specs.Held.{draft_held, behind_fault, job_held}
@@ -22,8 +22,8 @@ pub returns-in-Ok-clause-reached : goal.returns-in-Ok-clause-reached
 returns-in-Ok-clause-reached c =
     let comes : may_come c.args.self.now.format c.args.self.now.last c.in-Some.word ≡ true = sym c.may_come.ensures ∙ c.if-not-may_come.false in
     let fine : fault_by c.args.built (draft_held c.args.self.now) (fields c.args.line.now) ≡ None =
-        fault_behind c.args.built (draft_held c.args.self.now) (fields c.args.line.now) c.first_field-args.result.0.now c.first_field-args.result.1 c.in-Some.word c.first_field-args.ensures (sym c.in-Some.ensures) comes
-        ∙ c.in-Ok.ensures.taken.no_fault in
+    fault_behind c.args.built (draft_held c.args.self.now) (fields c.args.line.now) c.first_field-args.result.0.now c.first_field-args.result.1 c.in-Some.word c.first_field-args.ensures (sym c.in-Some.ensures) comes
+    ∙ c.in-Ok.ensures.taken.no_fault in
     reached_by (draft_held c.args.self.now) (record { last = c.rank-self.result; job = job_held c.take.new.self }) (fields c.args.line.now) c.first_field-args.result.0.now c.first_field-args.result.1 c.in-Some.word c.rank-self.ensures.exactly c.in-Ok.ensures.taken.said c.first_field-args.ensures (sym c.in-Some.ensures) c.requires.reached c.requires.more (fault_less c.args.built (draft_held c.args.self.now) (fields c.args.line.now) fine)
 
 pub returns-in-Err-clause-stopped : goal.returns-in-Err-clause-stopped

@@ -1,4 +1,4 @@
-use Rattle.std.proofs.Common.{arith, ◌∙◌, sym}
+use Rattle.std.proofs.Common.{arith, ◌∙◌}
 use Rattle.xv_job.specs.declared.word.Word.TheVariants.{Init as InitWord, Guest, Operation}
 use Rattle.xv_job.specs.Held.{draft_held}
 use Rattle.xv_job.proofs.ReachedAt.{pages_there, disk_there, machine_there, traces_there, is_op_word, none_held, count_held}

@@ -1,5 +1,4 @@
-use Rattle.std.proofs.Common.{arith, refl, ap, sym, ◌∙◌}
-use Rattle.std.proofs.lemmas.Bool.Decides.{nat_tests}
+use Rattle.std.proofs.Common.{arith, refl, ap}
 use Rattle.xv_base.specs.Units.{units}
 use Rattle.xv_job.specs.Held.{job_held}
 use Rattle.xv_job.proofs.Taken.{init_said, init_after}

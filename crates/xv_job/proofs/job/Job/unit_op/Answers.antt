@@ -1,5 +1,5 @@
-use Rattle.std.proofs.Common.{◌≡◌, ◌∙◌, ap, sym, subst, arith}
-use Rattle.xv_job.specs.Written.{Written, IsGoodWritten, AreTraces, ops_held}
+use Rattle.std.proofs.Common.{◌≡◌, ap, sym, subst}
+use Rattle.xv_job.specs.Written.{Written, AreTraces, ops_held}
 use Rattle.xv_base.specs.Units.{Shape}
 use Rattle.xv_job.proofs.Counted.{guest_in, unit_op_in, unit_op_is}
 use Rattle.xv_job.proofs.job.Job.unit_op.Goals as goal
