@@ -3,7 +3,8 @@ use Rattle.std.proofs.Common.{◌≡◌, ℕ, zero, suc, ◌+◌, ◌-◌, ◌�
 use Rattle.xv_text.specs.Lines.{lines_of, has_rest, fields, text_of}
 use Rattle.xv_text.specs.Reading.{first_fault, last_state, line_count}
 use Rattle.xv_text.specs.Cuts.{Lacks, IsCut}
-use Rattle.xv_text.proofs.Cuts.{cut_at_place, cut_at_none, cut_shorter, whole_lines-none}
+use Rattle.xv_text.proofs.Cuts.{cut_shorter, whole_lines-none}
+use Rattle.xv_job.proofs.FirstFeed.{cut_at_place, cut_at_none}
 use Rattle.std.proofs.lemmas.List.{take-append-drop}
 use Rattle.xv_text.proofs.Apart.{text_of-cut, lines_of-text, has_rest-text, text_of-append}
 use Rattle.xv_job.specs.Draft.{Draft, first_draft, next_draft, is_complete}
@@ -12,7 +13,7 @@ use Rattle.xv_job.specs.JobText.{job_lines, job_text}
 use Rattle.xv_job.specs.Written.{Written, IsGoodWritten}
 use Rattle.xv_base.specs.declared.text.TextError.{TextError}
 use Rattle.xv_base.specs.declared.text.TextError.TheVariants.{Fault, NoMemory}
-use Rattle.xv_trace.specs.OpText.{IfFault}
+use Rattle.xv_text.specs.Reading.{IfFault}
 use Rattle.xv_job.specs.Texts.{text_fault, job_said, UnlessNoMemory, SaysJob, IsReadBack}
 use Rattle.xv_job.proofs.BuiltLines.{built_text}
 use Rattle.xv_job.proofs.Backward.{sound, in_head}

@@ -2,7 +2,7 @@
 
 ghost use Rattle.std.specs.Prelude.{◌≡◌, ◌≤◌, ◌+◌, ◌++◌, ℕ, List, true, None, Some, length, take, IfOk};
 ghost use Rattle.xv_base.specs.declared.text.TextError.TheVariants.{Fault as FaultError};
-ghost use Rattle.xv_trace.specs.OpText.{IfFault};
+ghost use Rattle.xv_text.specs.Reading.{IfFault};
 ghost use Rattle.xv_job.specs.Written.{Written, IsGoodWritten, AreTraces};
 ghost use Rattle.xv_job.specs.Built.{IsBuilt};
 ghost use Rattle.xv_job.specs.JobText.{job_text, job_lines};
