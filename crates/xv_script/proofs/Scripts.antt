@@ -14,7 +14,7 @@ use Rattle.xv_text.specs.Fields.{fields_fault, fault_if}
 use Rattle.xv_text.specs.Reading.{first_fault, last_state, at_line_or}
 use Rattle.xv_text.proofs.Rows.{none_of_both}
 use Rattle.xv_text.proofs.Apart.{ArePlainLines, lines_of-text_of, has_rest-text_of, text_of-lines_of}
-use Rattle.xv_trace.specs.OpText.{IfFault}
+use Rattle.xv_text.specs.Reading.{IfFault}
 use Rattle.xv_model.specs.Job.{Job}
 use Rattle.xv_job.specs.BuiltEvents.{is_built_event, is_guest, is_begin, are_built}
 use Rattle.xv_script.specs.Lines.{line_words, script_text, events_of}

@@ -2,7 +2,7 @@
 
 ghost use Rattle.std.specs.Prelude.{◌≡◌, ◌≢◌, ◌<◌, ◌+◌, ◌^◌, List, length, None, Some, IfOk, IfErr};
 ghost use Rattle.xv_text.specs.Lines.{whole_lines, fields};
-ghost use Rattle.xv_trace.specs.OpText.{IfFault};
+ghost use Rattle.xv_text.specs.Reading.{IfFault};
 ghost use Rattle.xv_job.specs.Written.{job_of};
 ghost use Rattle.xv_script.specs.Words.{named, line_said};
 ghost use Rattle.xv_script.specs.Lines.{script_text};
