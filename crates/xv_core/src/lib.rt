@@ -11,6 +11,8 @@ mod parts;
 mod phase;
 mod steps;
 mod sums;
+#[cfg(test)]
+mod tests;
 
 pub use message::{Content, Message};
 pub use migration::Migration;

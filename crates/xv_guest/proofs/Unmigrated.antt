@@ -1,9 +1,9 @@
 -- The unmigrated guest, run entry by entry over a device in memory.
-use Rattle.std.proofs.Common.{◌≡◌, ℕ, zero, suc, ◌+◌, ◌-◌, ◌^◌, ◌<◌, ◌≤◌, ◌==◌, ◌&&◌, Bool, true, false, List, [], ◌∷◌, ◌++◌, length, map, take, drop, set, get_or, replicate, slice_index, slice_set, Option, Some, None, if◌then◌else◌, refl, sym, ap, subst, ◌∙◌, arith, inl, inr, append_assoc}
-use Rattle.std.proofs.lemmas.List.{take_more, take_all, take_at, length-take-le, length-set, get_or-set_same, get_or-set_other, set-get_or, length-append, length_push, get_or-map, append-nil}
+use Rattle.std.proofs.Common.{◌≡◌, ℕ, zero, suc, ◌+◌, ◌^◌, ◌<◌, ◌≤◌, ◌==◌, ◌&&◌, true, false, List, [], ◌∷◌, ◌++◌, length, take, drop, set, get_or, replicate, slice_index, slice_set, Option, Some, None, if◌then◌else◌, refl, sym, ap, subst, ◌∙◌, arith, inl, inr}
+use Rattle.std.proofs.lemmas.List.{take_more, take_all, take_at, length-take-le, length-set, get_or-set_same, get_or-set_other, set-get_or, append-nil}
 use Rattle.std.proofs.lemmas.List.Sums.{count_by-le-length}
 use Rattle.std.proofs.lemmas.List.FromFn.{length-map-range_with_len, get_or-map-range_with_len}
-use Rattle.std.proofs.lemmas.Bool.{cases_eq, cases_lt}
+use Rattle.std.proofs.lemmas.Bool.{cases_eq}
 use Rattle.xv_base.specs.Units.{Shape, units, size, max_size}
 use Rattle.xv_base.specs.Laws.{HasGreatestSize}
 use Rattle.xv_base.specs.Pattern.{repeated}
@@ -12,20 +12,20 @@ use Rattle.xv_base.specs.declared.operation.Outcome.{Outcome}
 use Rattle.xv_base.specs.declared.operation.Outcome.TheVariants.{Done, Faulted}
 use Rattle.xv_base.specs.declared.pattern.Init.{Init}
 use Rattle.xv_base.specs.declared.pattern.UnitOp.{UnitOp}
-use Rattle.xv_trace.specs.Operations.{all_unit_operations, count_all, no_unit_op}
+use Rattle.xv_trace.specs.Operations.{count_all, no_unit_op}
 use Rattle.xv_trace.specs.OpText.{Program}
 use Rattle.xv_trace.proofs.Counts.{length-all_unit_operations}
-use Rattle.xv_model.specs.Job.{Job, operation, trace, no_operation}
-use Rattle.xv_model.specs.Guest.{is_done, writes_to, initial_by, content, reads, overlaid}
+use Rattle.xv_model.specs.Job.{Job}
+use Rattle.xv_model.specs.Guest.{is_done, writes_to, initial_by, overlaid}
 use Rattle.xv_model.specs.Contents.{unit_content, after_operation, read_of}
 use Rattle.xv_model.proofs.Contents.Histories.{operation_of}
 use Rattle.xv_model.proofs.Histories.{ended-push_same, ended-push_other, ended-take-le}
-use Rattle.xv_model.proofs.Contents.Entries.{device-after, reads-after, reads-faulted, content-unwritten, length-new}
+use Rattle.xv_model.proofs.Contents.Entries.{device-after, reads-after, reads-faulted, content-unwritten}
 use Rattle.xv_model.proofs.Contents.Sizes.{length-repeated}
-use Rattle.xv_device.specs.Device.{Calls, write_count, contents_after, calls_after, writes_after}
+use Rattle.xv_device.specs.Device.{write_count, contents_after}
 use Rattle.xv_device.specs.Memory.{Device, first_content, first_contents, fresh, after}
 use Rattle.xv_guest.specs.Log.{ended, entry, no_entry}
-use Rattle.xv_guest.specs.Plain.{Plain, unit_ops, guest_ops, LiesIn, IsSure, IsJobOf, IsUnmigrated, call_by, call_of, bytes_of}
+use Rattle.xv_guest.specs.Plain.{Plain, guest_ops, LiesIn, IsSure, IsJobOf, IsUnmigrated, call_by, call_of, bytes_of}
 
 -- a guest that has a unit operation of this number has a trace, with more than so many
 pub next_there : (programs : List Program) (guest k : ℕ) (p : Program) → k < length (guest_ops programs guest) → p ≡ get_or programs guest p → k < count_all p.ops

@@ -7,7 +7,7 @@ use Rattle.xv_base.specs.declared.operation.Outcome.TheVariants.{Done, Faulted}
 use Rattle.xv_base.specs.Pattern.{repeated}
 use Rattle.xv_base.specs.declared.pattern.Init.{Init}
 use Rattle.xv_base.specs.declared.pattern.UnitOp.{UnitOp}
-use Rattle.xv_trace.specs.Operations.{all_unit_operations, no_unit_op}
+use Rattle.xv_trace.specs.Operations.{all_unit_operations}
 use Rattle.xv_trace.specs.OpText.{Program}
 use Rattle.xv_model.specs.Job.{Job}
 use Rattle.xv_model.specs.Guest.{content, reads}

@@ -11,7 +11,6 @@ pub mod Forward
 pub mod Taken
 pub mod ReachedAt
 pub mod Plain
-pub mod FirstFeed
 pub mod Texts
 pub mod Counted
 pub mod Few

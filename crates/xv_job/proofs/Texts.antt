@@ -1,10 +1,11 @@
 -- Texts that begin with a job, read and written.
-use Rattle.std.proofs.Common.{◌≡◌, ℕ, zero, suc, ◌+◌, ◌-◌, ◌≤◌, Bool, true, false, List, [], ◌∷◌, ◌++◌, length, map, take, drop, position, ◌==◌, Option, Some, None, Result, Ok, Err, IfOk, refl, sym, ap, ◌∙◌, subst, arith, append_assoc}
+use Rattle.std.proofs.Common.{◌≡◌, ℕ, zero, suc, ◌+◌, ◌-◌, ◌≤◌, Bool, true, false, List, [], ◌∷◌, ◌++◌, length, map, take, drop, ◌==◌, ◌⊎◌, inl, inr, Option, Some, None, Result, Ok, Err, IfOk, refl, sym, ap, ◌∙◌, subst, arith, append_assoc}
+use Rattle.std.specs.List.{list_any}
+use Rattle.std.proofs.lemmas.Bool.{cases_Bool, or_from, eqb-true}
 use Rattle.xv_text.specs.Lines.{lines_of, has_rest, fields, text_of}
 use Rattle.xv_text.specs.Reading.{first_fault, last_state, line_count}
 use Rattle.xv_text.specs.Cuts.{Lacks, IsCut}
 use Rattle.xv_text.proofs.Cuts.{cut_shorter, whole_lines-none}
-use Rattle.xv_job.proofs.FirstFeed.{cut_at_place, cut_at_none}
 use Rattle.std.proofs.lemmas.List.{take-append-drop}
 use Rattle.xv_text.proofs.Apart.{text_of-cut, lines_of-text, has_rest-text, text_of-append}
 use Rattle.xv_job.specs.Draft.{Draft, first_draft, next_draft, is_complete}
@@ -97,16 +98,35 @@ front_cut text front back cut h = record {
       ∙ ap (λ (t : List ℕ). t ++ h.behind) (sym (text_of-cut text front back cut));
 }
 
-front_by : (n : ℕ) (text : List ℕ) → length text ≤ n → (o : Option ℕ) → o ≡ position (λ b. b == 10) text → HasFront text
-front_by n text h None e = front_none text (cut_at_none 10 text e)
-front_by zero text h (Some k) e = absurd (omega (arith, cut_shorter 10 text _ _ (cut_at_place 10 text k e)))
-front_by (suc n) text h (Some k) e =
-    let cut = cut_at_place 10 text k e in
-    let back = take (length text - (k + 1)) (drop (k + 1) text) in
-    front_cut text (take k text) back cut (front_by n back (omega (arith, cut_shorter 10 text (take k text) back cut)) (position (λ b. b == 10) back) refl)
+-- a text has a first line feed, or none
+record HasCut (text : List ℕ) : Type 0 where
+  front : List ℕ
+  back : List ℕ
+  cut : IsCut 10 text front back
+
+more_cut : (b : ℕ) (text : List ℕ) → (b == 10) ≡ false → HasCut text ⊎ Lacks 10 text → HasCut (b ∷ text) ⊎ Lacks 10 (b ∷ text)
+more_cut b text other (inl c) = inl (record {
+  front = b ∷ c.front;
+  back = c.back;
+  cut = record { whole = ap (λ (xs : List ℕ). b ∷ xs) c.cut.whole; first = or_from (b == 10) (list_any (λ x. x == 10) c.front) other c.cut.first };
+})
+more_cut b text other (inr none) = inr (or_from (b == 10) (list_any (λ x. x == 10) text) other none)
+
+cut_or_lacks : (text : List ℕ) → HasCut text ⊎ Lacks 10 text
+cut_or_lacks [] = inr refl
+cut_or_lacks (b ∷ text) = elim (cases_Bool (b == 10)) [
+  | inl feed ↦ inl (record { front = []; back = text; cut = record { whole = ap (λ (x : ℕ). x ∷ text) (eqb-true b 10 feed); first = refl } })
+  | inr other ↦ more_cut b text other (cut_or_lacks text)
+]
+
+front_by : (n : ℕ) (text : List ℕ) → length text ≤ n → HasCut text ⊎ Lacks 10 text → HasFront text
+front_by n text h (inr none) = front_none text none
+front_by zero text h (inl c) = absurd (omega (arith, cut_shorter 10 text c.front c.back c.cut))
+front_by (suc n) text h (inl c) =
+    front_cut text c.front c.back c.cut (front_by n c.back (omega (arith, cut_shorter 10 text c.front c.back c.cut)) (cut_or_lacks c.back))
 
 pub front_of : (text : List ℕ) → HasFront text
-front_of text = front_by (length text) text (omega arith) (position (λ b. b == 10) text) refl
+front_of text = front_by (length text) text (omega arith) (cut_or_lacks text)
 
 -- what a text without a fault says
 pub says_job : (built : Bool) (text : List ℕ) → text_fault built text ≡ None → SaysJob (job_said built text) text

@@ -1,6 +1,6 @@
 //! A job read from the front of a text.
 
-ghost use Rattle.std.specs.Prelude.{◌≡◌, ◌≤◌, ◌+◌, ◌++◌, ℕ, List, true, None, Some, length, take, IfOk};
+ghost use Rattle.std.specs.Prelude.{◌≡◌, ◌≤◌, ◌+◌, ◌++◌, ℕ, List, true, false, None, Some, length, take, IfOk};
 ghost use Rattle.xv_base.specs.declared.text.TextError.TheVariants.{Fault as FaultError};
 ghost use Rattle.xv_text.specs.Reading.{IfFault};
 ghost use Rattle.xv_job.specs.Written.{Written, IsGoodWritten, AreTraces};

@@ -18,7 +18,7 @@ use xv_job::Job;
 use xv_text::{first_field, next_line, read_fields};
 
 /// The lines of a script of a job, to its line `stop`, which ends the text. The first line of the text has the
-/// number `first_line`.
+/// number `first_line`; with the line feeds of the text it comes to less than 2^32.
 /// Errors: the first faulty line, and the first reason why it is refused; want of memory.
 pub fn read_events(
     alloc: Global,

@@ -2,11 +2,12 @@
 
 use crate::counts::Counts;
 use crate::read::read_lines;
-use crate::{Line, print_probe, print_turn};
+use crate::{Line, print_probe, print_turn, read_events};
 use std::test::Fail;
 use xv_base::{
     Cause, Event, GuestId, LineFault, LineWhy, Note, Probe, Side, TextError, Turn, UnitId, Why,
 };
+use xv_job::read_job;
 
 const GUEST: Event = Event::Guest(GuestId(0));
 
@@ -115,20 +116,21 @@ fn refuses_texts(rt: HostRuntime) {
 
 #[test]
 fn reads_a_script(rt: HostRuntime) -> Result<(), Fail> {
-    let text = b"guest 1\nbegin 0\nround\nsend 2\nstop\n".as_slice();
-    assert!(rt; text.len() < 100);
-    match read_lines(rt.alloc(), COUNTS, text, 1) {
-        Ok(lines) => assert_eq!(rt;
-            lines.as_slice(),
-            [
-                Line::Step(Event::Guest(GuestId(1))),
-                Line::Step(Event::Begin(0)),
-                Line::Step(Event::Round),
-                Line::Step(Event::Send(2)),
-            ]
-            .as_slice()
-        ),
-        Err(_) => assert!(rt; false),
-    }
+    let job =
+        b"job 1\npages 1 16\ndisk 2 16\nstreams 1\ncredit 4\noutbox 4\nregion 1\nrounds 1\ndirty 0\nguest\nend\n";
+    let (job, place) = read_job(rt.alloc(), job).expect(&rt, "a job");
+    let script = b"guest 0\nbegin 0\nround\nsend 0\nstop\n".as_slice();
+    assert!(rt; place.line < 100);
+    let lines = read_events(rt.alloc(), &job, script, place.line).expect(&rt, "a script");
+    assert_eq!(rt;
+        lines.as_slice(),
+        [
+            Line::Step(Event::Guest(GuestId(0))),
+            Line::Step(Event::Begin(0)),
+            Line::Step(Event::Round),
+            Line::Step(Event::Send(0)),
+        ]
+        .as_slice()
+    );
     Ok(())
 }

@@ -1,5 +1,4 @@
-use Rattle.std.proofs.Common.{◌≡◌, ◌<◌, ◌^◌, ℕ, length, take, drop, ◌++◌, slice_index, slice_set, ◌+◌, refl, sym, ap, ◌∙◌, arith, rules}
-use Rattle.xv_base.specs.Units.{max_size}
+use Rattle.std.proofs.Common.{◌≡◌, ◌<◌, ◌^◌, length, take, drop, ◌++◌, slice_index, slice_set, ◌+◌, refl, sym, ap, ◌∙◌, arith, rules}
 use Rattle.xv_guest.specs.Plain.{guest_ops}
 use Rattle.xv_guest.proofs.Unmigrated.{begun, is_next, op_lies, op_fits, written_back, run_next, run_all}
 use Rattle.xv_guest.proofs.plain.PlainGuest.run.Goals as goal
