@@ -9,12 +9,14 @@ use Rattle.xv_dirty.specs.Pages.{member}
 use Rattle.xv_dirty.specs.Bits.{has, is_set, bits_of, HasBits}
 use Rattle.xv_dirty.specs.Levels.{IsClear, IsFirst, IsFirstOf, IsEmpty}
 
+-- the bits as a list, each at its number
 pub length_bits : (ws : List ℕ) (n : ℕ) → length (bits_of ws n) ≡ n
 length_bits ws n = length-map-range_with_len (is_set ws) 0 n
 
 bit_below : (ws : List ℕ) (n i : ℕ) (d : Bool) → i < n → get_or (bits_of ws n) i d ≡ is_set ws i
 bit_below ws n i d h = get_or-map-range_with_len (is_set ws) 0 n i i d h (omega arith)
 
+-- also past the end, where none is set
 pub member_bits : (ws : List ℕ) (n : ℕ) → HasBits ws n → (i : ℕ) → member (bits_of ws n) i ≡ is_set ws i
 member_bits ws n h i = elim (cases_lt i n) [
   | inl below ↦ bit_below ws n i false below
@@ -25,9 +27,11 @@ member_bits ws n h i = elim (cases_lt i n) [
 same_place : (i j : ℕ) → j / 64 ≡ i / 64 → j % 64 ≡ i % 64 → j ≡ i
 same_place i j d m = omega arith
 
+-- the word of a bit is there
 in_words : (n i : ℕ) → i < n → i / 64 < div_ceil n 64
 in_words n i h = grind arith
 
+-- a bit that is not 1 is 0
 no_bit : (x i : ℕ) → has x i ≡ false → bit_at x i ≡ 0
 no_bit x i h = elim (cases_eq (bit_at x i) 1) [
   | inl one ↦ absurd (false≢true (sym h ∙ ap (λ (b : ℕ). b == 1) one))
@@ -51,6 +55,7 @@ module _ (ws : List ℕ) (n i x : ℕ) (v : Bool) (h : HasBits ws n) (below : i 
   in_list : i / 64 < length ws
   in_list = omega (arith, h.enough, in_words n i below)
 
+  -- the bit itself, the others, and so all as a list
   changed-there : is_set (set ws (i / 64) x) i ≡ v
   changed-there = ap (λ (w : ℕ). has w (i % 64)) (get_or-set_same ws (i / 64) x 0 in_list) ∙ c.there
 
@@ -108,6 +113,7 @@ writes ws n now i was x v h is l read there others small =
       keeps = keeps_bits ws n i x v h below c;
     }
 
+-- what a read of one bit answers
 pub reads : (ws : List ℕ) (n : ℕ) (now : List Bool) (i was : ℕ) → HasBits ws n → bits_of ws n ≡ now → i < length now → was ≡ get_or ws (i / 64) was → has was (i % 64) ≡ member now i
 reads ws n now i was h is l read =
     ap (λ (w : ℕ). has w (i % 64)) (get_or_read ws (i / 64) was (word_in ws n now i h is l) read 0)
@@ -128,6 +134,7 @@ zero-from_clear ws n w h c = same_from_bits_below 64 (get_or ws w 0) 0 (h.small 
 word_clear : (ws : List ℕ) (n w : ℕ) → HasBits ws n → IsTrue (get_or ws w 0 == 0) ↔ IsClear (bits_of ws n) w
 word_clear ws n w h = (λ t. clear-from_zero ws n w h (eqb-true (get_or ws w 0) 0 t), λ c. eq-eqb (get_or ws w 0) 0 (zero-from_clear ws n w h c))
 
+-- a word that was written is 0 exactly where it has no bit left
 pub write_clear : (ws : List ℕ) (n i x : ℕ) → i / 64 < length ws → HasBits (set ws (i / 64) x) n → IsTrue (x == 0) ↔ IsClear (bits_of (set ws (i / 64) x) n) (i / 64)
 write_clear ws n i x l h =
     subst (λ (y : ℕ). IsTrue (y == 0) ↔ IsClear (bits_of (set ws (i / 64) x) n) (i / 64)) (get_or-set_same ws (i / 64) x 0 l) (word_clear (set ws (i / 64) x) n (i / 64) h)
@@ -158,6 +165,7 @@ bit_place w b h = (omega arith, omega arith)
 at_place : (ws : List ℕ) (w b : ℕ) → b < 64 → is_set ws (w * 64 + b) ≡ has (get_or ws w 0) b
 at_place ws w b h = let p = bit_place w b h in ap₂ (λ (k i : ℕ). has (get_or ws k 0) i) p.0 p.1
 
+-- a bit that is set is below the number of bits, and the lowest of a word is its least member
 pub place_below : (ws : List ℕ) (n w b : ℕ) → HasBits ws n → b < 64 → has (get_or ws w 0) b ≡ true → w * 64 + b < n
 place_below ws n w b h small there = elim (cases_lt (w * 64 + b) n) [
   | inl below ↦ below
@@ -227,6 +235,7 @@ all_set ws n all = same_lists _ _ (length_bits ws n ∙ sym (length-replicate n 
 abbrev pub ones : ℕ → List ℕ
 ones k = replicate k 18446744073709551615
 
+-- a word of these, and what is past them
 one_below : (k w : ℕ) → w < k → get_or (ones k) w 0 ≡ 18446744073709551615
 one_below k w below = get_or-replicate k w 18446744073709551615 0 below
 
