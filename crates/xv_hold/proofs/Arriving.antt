@@ -1,21 +1,19 @@
 -- A message arrives: the list has it at its end, and the hold keeps what each hold keeps.
-use Rattle.std.proofs.Common.{◌≡◌, ◌≢◌, ℕ, ◌+◌, ◌-◌, ◌*◌, ◌^◌, ◌<◌, ◌≤◌, ◌⊎◌, ◌==◌, ◌&&◌, Bool, true, false, cond, List, [], ◌∷◌, ◌++◌, length, map, get_or, set, take, drop, sum, count_by, Option, Some, None, sym, refl, ap, ◌∙◌, arith, inl, inr, ⊎_elim, subst, eq-eqb}
+use Rattle.std.proofs.Common.{◌≡◌, ◌≢◌, ℕ, ◌+◌, ◌-◌, ◌*◌, ◌^◌, ◌<◌, ◌≤◌, ◌⊎◌, true, cond, List, [], ◌∷◌, ◌++◌, length, map, get_or, set, take, drop, sum, count_by, Option, Some, None, sym, refl, ap, ◌∙◌, arith, ⊎_elim, subst, eq-eqb}
 use Rattle.std.specs.List.{sum_by}
 use Rattle.std.proofs.lemmas.List.{same_lists, map-append, map-set, get_or-map, length-map, length_push, take_at, get_or_push, get_or_append_left, get_or-set_same, get_or-set_other, length-set}
 use Rattle.std.proofs.lemmas.List.Sums.{sum_by-set, sum_by_push, get_or-le-sum_by, sum_by-le}
 use Rattle.std.proofs.lemmas.List.Elements.{All-from_get_or}
 use Rattle.std.proofs.Math.Nat.{mul-le-mul_right}
-use Rattle.std.proofs.lemmas.Bool.{cases_lt, cases_eq}
-use Rattle.xv_base.specs.Units.{Shape, units, size}
+use Rattle.xv_base.specs.Units.{units, size}
 use Rattle.xv_base.proofs.Within.{good_within}
-use Rattle.xv_slots.specs.Row.{Row, content, put}
+use Rattle.xv_slots.specs.Row.{content, put}
 use Rattle.xv_hold.specs.declared.hold.Held.{Held}
 use Rattle.xv_hold.specs.Messages.{Message, UnitHead, no_message, is_of, is_version, copies, arrived, last_slot}
-use Rattle.xv_hold.specs.Arrival.{in_slot, head_of, slot_of, in_order, message_in, messages_of}
+use Rattle.xv_hold.specs.Arrival.{in_slot, head_of, slot_of, in_order, message_in}
 use Rattle.xv_hold.specs.Chains.{link, IsLastBelow}
 use Rattle.xv_hold.specs.Kept.{State, IsKept, IsHeldIn, messages, seen_of, ready_by, ready_after, has_unit}
-use Rattle.xv_hold.proofs.Walk.{held-within}
-use Rattle.xv_hold.proofs.Places.{ArrivedOnce, slot-found, slot-none, slot-same, order-at, order-place, order-more}
+use Rattle.xv_hold.proofs.Places.{ArrivedOnce, slot-found, slot-same, order-at, order-place, order-more}
 use Rattle.xv_hold.proofs.FirstReady.{message-at, messages-length}
 use Rattle.xv_hold.proofs.Linking.{IsPut, put-cases, put-apart, put-keeps}
 use Rattle.xv_hold.proofs.Chained.{IsUnwritten, chained-more}
@@ -92,13 +90,13 @@ module _ (s : State) (h : IsKept s) (slot : ℕ) (free : List ℕ) (at : ℕ) (h
   arrived-once : ArrivedOnce (arrived_state s slot free at head bytes).slots
   arrived-once k j g f is there same = ⊎_elim
       (λ new. ⊎_elim
-          (λ new'. new.0 ∙ sym new'.0)
-          (λ old. let own = ap (λ x. x.arrival) new.1 in absurd (omega (arith, (h.held_in j f old.1).numbered)))
-          (cases j f there))
+      (λ new'. new.0 ∙ sym new'.0)
+      (λ old. let own = ap (λ x. x.arrival) new.1 in absurd (omega (arith, (h.held_in j f old.1).numbered)))
+      (cases j f there))
       (λ old. ⊎_elim
-          (λ new'. let own = ap (λ x. x.arrival) new'.1 in absurd (omega (arith, (h.held_in k g old.1).numbered)))
-          (λ old'. h.arrived_once k j g f old.1 old'.1 same)
-          (cases j f there))
+      (λ new'. let own = ap (λ x. x.arrival) new'.1 in absurd (omega (arith, (h.held_in k g old.1).numbered)))
+      (λ old'. h.arrived_once k j g f old.1 old'.1 same)
+      (cases j f there))
       (cases k g is)
 
   not-held : (k : ℕ) (g : Held) → in_slot s.slots k ≡ Some g → g.head.unit.0 ≡ head.unit.0 → g.head.version ≢ head.version
@@ -108,13 +106,13 @@ module _ (s : State) (h : IsKept s) (slot : ℕ) (free : List ℕ) (at : ℕ) (h
       → g.head.unit.0 ≡ f.head.unit.0 → g.head.version ≡ f.head.version → k ≡ j
   version-once k j g f is there unit version = ⊎_elim
       (λ new. ⊎_elim
-          (λ new'. new.0 ∙ sym new'.0)
-          (λ old. absurd (not-held j f old.1 (sym unit ∙ ap (λ x. x.head.unit.0) new.1) (sym version ∙ ap (λ x. x.head.version) new.1)))
-          (cases j f there))
+      (λ new'. new.0 ∙ sym new'.0)
+      (λ old. absurd (not-held j f old.1 (sym unit ∙ ap (λ x. x.head.unit.0) new.1) (sym version ∙ ap (λ x. x.head.version) new.1)))
+      (cases j f there))
       (λ old. ⊎_elim
-          (λ new'. absurd (not-held k g old.1 (unit ∙ ap (λ x. x.head.unit.0) new'.1) (version ∙ ap (λ x. x.head.version) new'.1)))
-          (λ old'. h.version_once k j g f old.1 old'.1 unit version)
-          (cases j f there))
+      (λ new'. absurd (not-held k g old.1 (unit ∙ ap (λ x. x.head.unit.0) new'.1) (version ∙ ap (λ x. x.head.version) new'.1)))
+      (λ old'. h.version_once k j g f old.1 old'.1 unit version)
+      (cases j f there))
       (cases k g is)
 
   -- the slots in order of arrival, with the new one last

@@ -1,10 +1,10 @@
 -- All chains after a message was put into its chain, and after the first of a chain was taken out.
 use Rattle.std.proofs.Common.{◌≡◌, ◌≢◌, ℕ, ◌+◌, ◌<◌, ◌≤◌, ◌⊎◌, List, length, get_or, set, Option, Some, None, sym, refl, ap, ◌∙◌, arith, inl, inr, ⊎_elim, subst}
 use Rattle.std.proofs.lemmas.List.{get_or-set_same, get_or-set_other, length-set}
-use Rattle.std.proofs.lemmas.Bool.{cases_lt, cases_eq}
+use Rattle.std.proofs.lemmas.Bool.{cases_eq}
 use Rattle.xv_hold.specs.declared.hold.Held.{Held}
 use Rattle.xv_hold.specs.Arrival.{in_slot}
-use Rattle.xv_hold.specs.Chains.{link, IsLeastAbove, LeadsAbove, IsChained, IsLinkBelow, IsLastBelow, IsWalkable}
+use Rattle.xv_hold.specs.Chains.{link, LeadsAbove, IsChained, IsLastBelow, IsWalkable}
 use Rattle.xv_hold.proofs.Walk.{held-within}
 use Rattle.xv_hold.proofs.Linking.{IsPut, put-cases, put-apart, put-keeps, leads-other, leads-new, leads-on, leads-same, IsPlaceOf}
 
@@ -40,27 +40,29 @@ module _ (slots more : List (Option Held)) (slot : ℕ) (g : Held) (p : IsPut sl
       → (bound : ℕ) × IsPlaceOf slots links (get_or applied g.head.unit.0 0) g at bound × IsAtPlace at bound
   found at last unwritten new = ⊎_elim
       (λ own.
-      let leads : LeadsAbove slots g.head.unit.0 (get_or applied g.head.unit.0 0) (link links at) = subst (λ i. LeadsAbove slots g.head.unit.0 (get_or applied g.head.unit.0 0) (link links i)) (sym own) (c.firsts g.head.unit.0 unit_in) in
-      (get_or applied g.head.unit.0 0,
-      record {
-        leads = leads;
-        below = unwritten;
-        beyond = λ k h to is. let n = leads.next k to in let one : n.held ≡ h = (let e = n.is_held in cc) in
-            let other = new k h is (ap (λ x. x.head.unit.0) (sym one) ∙ n.of_unit) in omega (arith, last.stops k h to is);
-        held_at = λ l. absurd (omega arith);
-      },
-      inl (own, refl)))
+      let leads : LeadsAbove slots g.head.unit.0 (get_or applied g.head.unit.0 0) (link links at) = subst (λ i. LeadsAbove slots g.head.unit.0 (get_or applied g.head.unit.0 0) (link links i)) (sym own) (c.firsts g.head.unit.0 unit_in) in (
+        get_or applied g.head.unit.0 0,
+        record {
+          leads = leads;
+          below = unwritten;
+          beyond = λ k h to is. let n = leads.next k to in let one : n.held ≡ h = (let e = n.is_held in cc) in
+              let other = new k h is (ap (λ x. x.head.unit.0) (sym one) ∙ n.of_unit) in omega (arith, last.stops k h to is);
+          held_at = λ l. absurd (omega arith);
+        },
+        inl (own, refl),
+      ))
       (λ held.
-      let leads : LeadsAbove slots g.head.unit.0 held.0.head.version (link links at) = subst (λ u. LeadsAbove slots u held.0.head.version (link links at)) held.2 (c.nexts at held.0 held.1) in
-      (held.0.head.version,
-      record {
-        leads = leads;
-        below = held.3;
-        beyond = λ k h to is. let n = leads.next k to in let one : n.held ≡ h = (let e = n.is_held in cc) in
-            let other = new k h is (ap (λ x. x.head.unit.0) (sym one) ∙ n.of_unit) in omega (arith, last.stops k h to is);
-        held_at = λ _. (held.0, held.1, held.2, refl);
-      },
-      inr (held.0, held.1, held.2, refl)))
+      let leads : LeadsAbove slots g.head.unit.0 held.0.head.version (link links at) = subst (λ u. LeadsAbove slots u held.0.head.version (link links at)) held.2 (c.nexts at held.0 held.1) in (
+        held.0.head.version,
+        record {
+          leads = leads;
+          below = held.3;
+          beyond = λ k h to is. let n = leads.next k to in let one : n.held ≡ h = (let e = n.is_held in cc) in
+              let other = new k h is (ap (λ x. x.head.unit.0) (sym one) ∙ n.of_unit) in omega (arith, last.stops k h to is);
+          held_at = λ _. (held.0, held.1, held.2, refl);
+        },
+        inr (held.0, held.1, held.2, refl),
+      ))
       last.below
 
   -- The links after the message's was set, and that of its place.
@@ -107,8 +109,8 @@ module _ (slots more : List (Option Held)) (slot : ℕ) (g : Held) (p : IsPut sl
               place
           | inr other ↦
               let to : link (linked at) (length slots + u) ≡ link links (length slots + u) = link-other (length slots + u)
-                  (λ e. ⊎_elim (λ own. other (omega arith)) (λ held. let within = held-within slots at held.0 held.1 in omega arith) place)
-                  (λ e. omega arith) in
+              (λ e. ⊎_elim (λ own. other (omega arith)) (λ held. let within = held-within slots at held.0 held.1 in omega arith) place)
+              (λ e. omega arith) in
               subst (λ o. LeadsAbove more u (get_or applied u 0) o) (sym to) (leads-other slots more slot g p u (get_or applied u 0) (link links (length slots + u)) (λ e. other (sym e)) (c.firsts u in'))
         ] in
         subst (λ i. LeadsAbove more u (get_or applied u 0) (link (linked at) i)) (sym where_is) there
@@ -144,9 +146,9 @@ module _ (slots more : List (Option Held)) (slot : ℕ) (g : Held) (p : IsPut sl
                     let leads : LeadsAbove slots g.head.unit.0 h.head.version (link links k) = subst (λ u. LeadsAbove slots u h.head.version (link links k)) same (c.nexts k h old.1) in
                     let above : get_or applied g.head.unit.0 0 < h.head.version = subst (λ u. get_or applied u 0 < h.head.version) same (free.above k h old.1) in
                     let other : h.head.version ≢ bound = λ e. ⊎_elim
-                        (λ own. omega arith)
-                        (λ held. elsewhere (free.once k at h held.0 old.1 held.1 (same ∙ sym held.2) (e ∙ sym held.3)))
-                        place in
+                    (λ own. omega arith)
+                    (λ held. elsewhere (free.once k at h held.0 old.1 held.1 (same ∙ sym held.2) (e ∙ sym held.3)))
+                    place in
                     subst (λ u. LeadsAbove more u h.head.version (link links k)) (sym same)
                     (leads-same slots more slot g p links (get_or applied g.head.unit.0 0) at bound b h.head.version (link links k) leads other (omega arith) (λ _. (k, h, old.1, same, refl)))
                 | inr apart_from ↦ leads-other slots more slot g p h.head.unit.0 h.head.version (link links k) (λ e. apart_from (sym e)) (c.nexts k h old.1)
@@ -198,15 +200,15 @@ chained-less slots less slot g p same_size links applied c size unit_in free nex
       (elim (cases_eq u g.head.unit.0) [
         | inl same ↦
             let to : link (set links (length slots + g.head.unit.0) (link links slot)) (length slots + u) ≡ link links slot =
-                ap (λ w. link (set links (length slots + g.head.unit.0) (link links slot)) (length slots + w)) same
-                ∙ get_or-set_same links (length slots + g.head.unit.0) (link links slot) None (omega arith) in
+            ap (λ w. link (set links (length slots + g.head.unit.0) (link links slot)) (length slots + w)) same
+            ∙ get_or-set_same links (length slots + g.head.unit.0) (link links slot) None (omega arith) in
             let now : get_or (set applied g.head.unit.0 g.head.version) u 0 ≡ g.head.version =
-                ap (λ w. get_or (set applied g.head.unit.0 g.head.version) w 0) same ∙ get_or-set_same applied g.head.unit.0 g.head.version 0 unit_in in
+            ap (λ w. get_or (set applied g.head.unit.0 g.head.version) w 0) same ∙ get_or-set_same applied g.head.unit.0 g.head.version 0 unit_in in
             rw (to, now) (subst (λ w. LeadsAbove less w g.head.version (link links slot)) (sym same)
             (leads-less slots less slot g p g.head.unit.0 g.head.version (link links slot) (λ _. omega arith) (c.nexts slot g p.own)))
         | inr other ↦
             let to : link (set links (length slots + g.head.unit.0) (link links slot)) (length slots + u) ≡ link links (length slots + u) =
-                get_or-set_other links (length slots + g.head.unit.0) (length slots + u) (link links slot) None (λ e. other (omega arith)) in
+            get_or-set_other links (length slots + g.head.unit.0) (length slots + u) (link links slot) None (λ e. other (omega arith)) in
             let now : get_or (set applied g.head.unit.0 g.head.version) u 0 ≡ get_or applied u 0 = get_or-set_other applied g.head.unit.0 u g.head.version 0 other in
             rw (to, now) (leads-less slots less slot g p u (get_or applied u 0) (link links (length slots + u)) (λ e. absurd (other (sym e))) (c.firsts u within))
       ]);

@@ -1,12 +1,10 @@
 -- A message put into its unit's chain, or taken out as the first of it: the links lead on as they should.
-use Rattle.std.proofs.Common.{◌≡◌, ◌≢◌, ℕ, ◌+◌, ◌<◌, ◌≤◌, ◌⊎◌, List, length, get_or, set, Option, Some, None, sym, refl, ap, ◌∙◌, arith, inl, inr, ⊎_elim, subst}
-use Rattle.std.proofs.lemmas.List.{get_or-set_same, get_or-set_other, length-set}
+use Rattle.std.proofs.Common.{◌≡◌, ◌≢◌, ℕ, ◌<◌, ◌≤◌, ◌⊎◌, List, Option, Some, None, sym, refl, ap, ◌∙◌, arith, inl, inr, ⊎_elim, subst}
 use Rattle.std.proofs.lemmas.Bool.{cases_lt, cases_eq}
 use Rattle.xv_hold.specs.declared.hold.Held.{Held}
 use Rattle.xv_hold.specs.Arrival.{in_slot}
-use Rattle.xv_hold.specs.Chains.{link, IsLeastAbove, LeadsAbove, IsChained, IsLinkBelow, IsLastBelow}
+use Rattle.xv_hold.specs.Chains.{link, IsLeastAbove, LeadsAbove}
 use Rattle.xv_hold.proofs.Places.{none_or_some}
-use Rattle.xv_hold.proofs.Walk.{held-within}
 
 -- `more` has what `slots` has, and a message in a slot that is free there
 pub record IsPut (slots more : List (Option Held)) (slot : ℕ) (g : Held) : Type 0 where
@@ -68,9 +66,9 @@ module _ (slots more : List (Option Held)) (slot : ℕ) (g : Held) (p : IsPut sl
       least = λ j h is own up. ⊎_elim
           (λ new. let one = ap (λ x. x.head.version) new.1 in omega arith)
           (λ old. ⊎_elim
-              (λ none. absurd (omega (arith, b.leads.none none j h old.1 own)))
-              (λ some. let n = b.leads.next some.0 some.1 in omega (arith, n.least j h old.1 own up, b.beyond some.0 n.held some.1 n.is_held))
-              (none_or_some (link links at)))
+          (λ none. absurd (omega (arith, b.leads.none none j h old.1 own)))
+          (λ some. let n = b.leads.next some.0 some.1 in omega (arith, n.least j h old.1 own up, b.beyond some.0 n.held some.1 n.is_held))
+          (none_or_some (link links at)))
           (put-cases slots more slot g p j h is);
     });
   }
@@ -117,9 +115,9 @@ module _ (slots more : List (Option Held)) (slot : ℕ) (g : Held) (p : IsPut sl
     | inr not_low ↦
         let high = held (omega arith) in
         let before : g.head.version < other = ⊎_elim
-            (λ none. absurd (omega (arith, b.leads.none none high.0 high.1 high.2 high.3, high.4)))
-            (λ some. let n = b.leads.next some.0 some.1 in omega (arith, n.least high.0 high.1 high.2 high.3 (omega (arith, high.4)), high.4, b.beyond some.0 n.held some.1 n.is_held))
-            (none_or_some (link links at)) in
+        (λ none. absurd (omega (arith, b.leads.none none high.0 high.1 high.2 high.3, high.4)))
+        (λ some. let n = b.leads.next some.0 some.1 in omega (arith, n.least high.0 high.1 high.2 high.3 (omega (arith, high.4)), high.4, b.beyond some.0 n.held some.1 n.is_held))
+        (none_or_some (link links at)) in
         record {
           none = λ e k h is own. ⊎_elim
               (λ new. let one = ap (λ x. x.head.version) new.1 in omega arith)

@@ -1,15 +1,15 @@
 -- The message that is ready is written and taken out: the list is without it, and the hold keeps what each hold keeps.
-use Rattle.std.proofs.Common.{◌≡◌, ◌≢◌, ℕ, suc, ◌+◌, ◌-◌, ◌^◌, ◌<◌, ◌≤◌, ◌⊎◌, ◌==◌, Bool, true, false, cond, List, [], ◌∷◌, ◌++◌, length, map, get_or, set, take, drop, remove, sum, count_by, Option, Some, None, sym, refl, ap, ◌∙◌, arith, inl, inr, ⊎_elim, subst, eq-eqb, ne_eqb, eqb-true}
+use Rattle.std.proofs.Common.{◌≡◌, ◌≢◌, ℕ, suc, ◌+◌, ◌^◌, ◌<◌, ◌⊎◌, cond, List, [], ◌∷◌, ◌++◌, length, map, get_or, set, take, drop, remove, count_by, Option, Some, None, sym, refl, ap, ◌∙◌, arith, inl, inr, ⊎_elim, subst, ne_eqb, eqb-true}
 use Rattle.std.specs.Prelude.{IfSome}
 use Rattle.std.specs.List.{sum_by}
 use Rattle.std.proofs.lemmas.List.{ext_get_or, map-append, take-map, drop-map, get_or-map, length-map, length_push, get_or_push, get_or_append_left, get_or-set_same, get_or-set_other, length-set}
 use Rattle.std.proofs.lemmas.List.Edits.{length-remove}
 use Rattle.std.proofs.lemmas.List.Sums.{sum_by-set, sum_by-remove}
 use Rattle.std.proofs.lemmas.Bool.{cases_lt, cases_eq}
-use Rattle.xv_base.specs.Units.{Shape, units, size}
-use Rattle.xv_slots.specs.Row.{Row, content}
+use Rattle.xv_base.specs.Units.{size}
+use Rattle.xv_slots.specs.Row.{content}
 use Rattle.xv_hold.specs.declared.hold.Held.{Held}
-use Rattle.xv_hold.specs.Messages.{Message, Hold, UnitHead, no_message, is_of, is_next, ready_place, ready_message, written}
+use Rattle.xv_hold.specs.Messages.{Message, UnitHead, no_message, is_of, ready_place, ready_message, written}
 use Rattle.xv_hold.specs.Arrival.{in_slot, head_of, slot_of, in_order, message_in}
 use Rattle.xv_hold.specs.Chains.{link, LeadsAbove}
 use Rattle.xv_hold.specs.Kept.{State, IsKept, IsHeldIn, messages, seen_of, ready_by, ready_after, with_next, has_unit}
@@ -147,12 +147,12 @@ module _ (s : State) (h : IsKept s) (slot : ℕ) (r : IsReadyIn s slot) (small :
     | inl own ↦
         let late : g.head.version < f.head.version = greater j f is apart own in
         let before : ready_by s.applied (Some f) ≡ None =
-            ap (λ u. ready_after (get_or s.applied u 0) (Some f)) own
-            ∙ (let no : f.head.version ≢ get_or s.applied g.head.unit.0 0 + 1 = λ e. omega (arith, version-is) in rw (ne_eqb f.head.version (get_or s.applied g.head.unit.0 0 + 1) no) refl) in
+        ap (λ u. ready_after (get_or s.applied u 0) (Some f)) own
+        ∙ (let no : f.head.version ≢ get_or s.applied g.head.unit.0 0 + 1 = λ e. omega (arith, version-is) in rw (ne_eqb f.head.version (get_or s.applied g.head.unit.0 0 + 1) no) refl) in
         let now : ready_by (set s.applied g.head.unit.0 g.head.version) (Some f) ≡ None =
-            ap (λ u. ready_after (get_or (set s.applied g.head.unit.0 g.head.version) u 0) (Some f)) own
-            ∙ ap (λ n. ready_after n (Some f)) now-own
-            ∙ rw (ne_eqb f.head.version (g.head.version + 1) (not_next f is own)) refl in
+        ap (λ u. ready_after (get_or (set s.applied g.head.unit.0 g.head.version) u 0) (Some f)) own
+        ∙ ap (λ n. ready_after n (Some f)) now-own
+        ∙ rw (ne_eqb f.head.version (g.head.version + 1) (not_next f is own)) refl in
         before ∙ sym now
     | inr other_unit ↦ ap (λ n. ready_after n (Some f)) (sym (now-other f.head.unit.0 other_unit))
   ]
@@ -206,14 +206,14 @@ module _ (s : State) (h : IsKept s) (slot : ℕ) (r : IsReadyIn s slot) (small :
         | inr elsewhere ↦
             get_or-set_other without next j _ None elsewhere
             ∙ (elim (cases_eq j slot) [
-                | inl own ↦ ap (λ k. get_or without k None) own ∙ without-own ∙ sym by_now-own ∙ ap by_now (sym own)
-                | inr else_apart ↦
-                    without-other j else_apart
-                    ∙ same-by j (in_slot s.slots j) refl else_apart
-                    (λ f is own next_now.
-                    let least = n.least j f is own (omega arith) in
-                    elsewhere (h.version_once j next f n.held is n.is_held (own ∙ sym n.of_unit) (omega (arith, n.above))))
-                    ∙ by_now-other j else_apart
+              | inl own ↦ ap (λ k. get_or without k None) own ∙ without-own ∙ sym by_now-own ∙ ap by_now (sym own)
+              | inr else_apart ↦
+                  without-other j else_apart
+                  ∙ same-by j (in_slot s.slots j) refl else_apart
+                  (λ f is own next_now.
+                  let least = n.least j f is own (omega arith) in
+                  elsewhere (h.version_once j next f n.held is n.is_held (own ∙ sym n.of_unit) (omega (arith, n.above))))
+                  ∙ by_now-other j else_apart
             ])
       ]
 
@@ -251,13 +251,13 @@ module _ (s : State) (h : IsKept s) (slot : ℕ) (r : IsReadyIn s slot) (small :
   free-once : (i j : ℕ) → i < length (s.free ++ slot ∷ []) → j < length (s.free ++ slot ∷ []) → get_or (s.free ++ slot ∷ []) i 0 ≡ get_or (s.free ++ slot ∷ []) j 0 → i ≡ j
   free-once i j l m same = ⊎_elim
       (λ old. ⊎_elim
-          (λ old'. h.free_once i j old old' (sym (free-old i old) ∙ same ∙ free-old j old'))
-          (λ new'. absurd (free-apart i old (sym (free-old i old) ∙ same ∙ free-new j new')))
-          (old-or-new j m))
+      (λ old'. h.free_once i j old old' (sym (free-old i old) ∙ same ∙ free-old j old'))
+      (λ new'. absurd (free-apart i old (sym (free-old i old) ∙ same ∙ free-new j new')))
+      (old-or-new j m))
       (λ new. ⊎_elim
-          (λ old'. absurd (free-apart j old' (sym (free-old j old') ∙ sym same ∙ free-new i new)))
-          (λ new'. new ∙ sym new')
-          (old-or-new j m))
+      (λ old'. absurd (free-apart j old' (sym (free-old j old') ∙ sym same ∙ free-new i new)))
+      (λ new'. new ∙ sym new')
+      (old-or-new j m))
       (old-or-new i l)
 
   pub written-kept : IsKept (written_state s slot g.head)

@@ -1,5 +1,4 @@
-use Rattle.std.proofs.Common.{rules, ◌≡◌, ◌+◌, ◌<◌, ◌^◌, ◌∷◌, length, get_or, set, subst, sym, ap, ◌∙◌, arith, Some, None}
-use Rattle.std.specs.Prelude.{IfSome}
+use Rattle.std.proofs.Common.{rules, ◌≡◌, ◌+◌, ◌<◌, ◌^◌, length, subst, sym, ap, ◌∙◌, arith, None}
 use Rattle.std.proofs.lemmas.List.{get_or_read, length-set}
 use Rattle.xv_hold.specs.Messages.{Hold, UnitHead, ready_slot, ready_message, written}
 use Rattle.xv_hold.specs.Fields.{state_of}
@@ -63,9 +62,10 @@ first-is c = let all = c.self.invariant.0.slot_each in omega arith
 pub invariant_of-self : goal.invariant_of-self
 invariant_of-self c =
     let kept : IsKept (written_state (state_of c.self.inside) c.args.slot c.head-version.result) =
-    subst (λ (x : UnitHead). IsKept (written_state (state_of c.self.inside) c.args.slot x)) (head-read c) (written-kept (state_of c.self.inside) c.self.invariant.0 c.args.slot (ready c) (small c)) in
-    (rw (c.make_ready.ensures, c.deref.ensures.value, c.set.ensures, c.in-Ok.ensures.items, first-is c, link-read c) kept,
-    omega (arith, c.self.invariant.1, c.in-Ok.ensures.capacity))
+    subst (λ (x : UnitHead). IsKept (written_state (state_of c.self.inside) c.args.slot x)) (head-read c) (written-kept (state_of c.self.inside) c.self.invariant.0 c.args.slot (ready c) (small c)) in (
+      rw (c.make_ready.ensures, c.deref.ensures.value, c.set.ensures, c.in-Ok.ensures.items, first-is c, link-read c) kept,
+      omega (arith, c.self.invariant.1, c.in-Ok.ensures.capacity),
+    )
 
 pub returns : goal.returns
 returns c =

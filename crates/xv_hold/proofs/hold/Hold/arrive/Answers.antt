@@ -1,4 +1,4 @@
-use Rattle.std.proofs.Common.{rules, ◌≡◌, ◌+◌, ◌<◌, ◌≤◌, ◌∷◌, length, get_or, subst, sym, ap, ◌∙◌, arith, None}
+use Rattle.std.proofs.Common.{rules, ◌≡◌, ◌<◌, length, get_or, subst, sym, arith, None}
 use Rattle.std.proofs.lemmas.List.{get_or_read}
 use Rattle.xv_base.specs.Units.{units, size}
 use Rattle.xv_hold.specs.Messages.{Hold, version, copies}
@@ -76,10 +76,11 @@ version-read c =
 
 pub invariant_of-self : goal.invariant_of-self
 invariant_of-self c =
-    let a = arrives c in
-    (rw (c.put.ensures, c.set.ensures, c.ready_after.ensures, version-read c, link-read c)
-    (arrived-kept (state_of c.self.inside) c.self.invariant.0 c.in-Some.slot c.pop.new.self.items c.link_below-before.result c.args.head c.args.bytes.now a),
-    omega (arith, c.self.invariant.1, c.in-Some.ensures.capacity))
+    let a = arrives c in (
+      rw (c.put.ensures, c.set.ensures, c.ready_after.ensures, version-read c, link-read c)
+          (arrived-kept (state_of c.self.inside) c.self.invariant.0 c.in-Some.slot c.pop.new.self.items c.link_below-before.result c.args.head c.args.bytes.now a),
+      omega (arith, c.self.invariant.1, c.in-Some.ensures.capacity),
+    )
 
 pub returns : goal.returns
 returns c =
