@@ -1,21 +1,19 @@
 -- A message arrives: the list has it at its end, and the hold keeps what each hold keeps.
-use Rattle.std.proofs.Common.{◌≡◌, ◌≢◌, ℕ, ◌+◌, ◌-◌, ◌*◌, ◌^◌, ◌<◌, ◌≤◌, ◌⊎◌, ◌==◌, ◌&&◌, Bool, true, false, cond, List, [], ◌∷◌, ◌++◌, length, map, get_or, set, take, drop, sum, count_by, Option, Some, None, sym, refl, ap, ◌∙◌, arith, inl, inr, ⊎_elim, subst, eq-eqb}
+use Rattle.std.proofs.Common.{◌≡◌, ◌≢◌, ℕ, ◌+◌, ◌-◌, ◌*◌, ◌^◌, ◌<◌, ◌≤◌, ◌⊎◌, true, cond, List, [], ◌∷◌, ◌++◌, length, map, get_or, set, take, drop, sum, count_by, Option, Some, None, sym, refl, ap, ◌∙◌, arith, ⊎_elim, subst, eq-eqb}
 use Rattle.std.specs.List.{sum_by}
 use Rattle.std.proofs.lemmas.List.{same_lists, map-append, map-set, get_or-map, length-map, length_push, take_at, get_or_push, get_or_append_left, get_or-set_same, get_or-set_other, length-set}
 use Rattle.std.proofs.lemmas.List.Sums.{sum_by-set, sum_by_push, get_or-le-sum_by, sum_by-le}
 use Rattle.std.proofs.lemmas.List.Elements.{All-from_get_or}
 use Rattle.std.proofs.Math.Nat.{mul-le-mul_right}
-use Rattle.std.proofs.lemmas.Bool.{cases_lt, cases_eq}
-use Rattle.xv_base.specs.Units.{Shape, units, size}
+use Rattle.xv_base.specs.Units.{units, size}
 use Rattle.xv_base.proofs.Within.{good_within}
-use Rattle.xv_slots.specs.Row.{Row, content, put}
+use Rattle.xv_slots.specs.Row.{content, put}
 use Rattle.xv_hold.specs.declared.hold.Held.{Held}
 use Rattle.xv_hold.specs.Messages.{Message, UnitHead, no_message, is_of, is_version, copies, arrived, last_slot}
-use Rattle.xv_hold.specs.Arrival.{in_slot, head_of, slot_of, in_order, message_in, messages_of}
+use Rattle.xv_hold.specs.Arrival.{in_slot, head_of, slot_of, in_order, message_in}
 use Rattle.xv_hold.specs.Chains.{link, IsLastBelow}
 use Rattle.xv_hold.specs.Kept.{State, IsKept, IsHeldIn, messages, seen_of, ready_by, ready_after, has_unit}
-use Rattle.xv_hold.proofs.Walk.{held-within}
-use Rattle.xv_hold.proofs.Places.{ArrivedOnce, slot-found, slot-none, slot-same, order-at, order-place, order-more}
+use Rattle.xv_hold.proofs.Places.{ArrivedOnce, slot-found, slot-same, order-at, order-place, order-more}
 use Rattle.xv_hold.proofs.FirstReady.{message-at, messages-length}
 use Rattle.xv_hold.proofs.Linking.{IsPut, put-cases, put-apart, put-keeps}
 use Rattle.xv_hold.proofs.Chained.{IsUnwritten, chained-more}

@@ -1,10 +1,10 @@
 -- All chains after a message was put into its chain, and after the first of a chain was taken out.
 use Rattle.std.proofs.Common.{◌≡◌, ◌≢◌, ℕ, ◌+◌, ◌<◌, ◌≤◌, ◌⊎◌, List, length, get_or, set, Option, Some, None, sym, refl, ap, ◌∙◌, arith, inl, inr, ⊎_elim, subst}
 use Rattle.std.proofs.lemmas.List.{get_or-set_same, get_or-set_other, length-set}
-use Rattle.std.proofs.lemmas.Bool.{cases_lt, cases_eq}
+use Rattle.std.proofs.lemmas.Bool.{cases_eq}
 use Rattle.xv_hold.specs.declared.hold.Held.{Held}
 use Rattle.xv_hold.specs.Arrival.{in_slot}
-use Rattle.xv_hold.specs.Chains.{link, IsLeastAbove, LeadsAbove, IsChained, IsLinkBelow, IsLastBelow, IsWalkable}
+use Rattle.xv_hold.specs.Chains.{link, LeadsAbove, IsChained, IsLastBelow, IsWalkable}
 use Rattle.xv_hold.proofs.Walk.{held-within}
 use Rattle.xv_hold.proofs.Linking.{IsPut, put-cases, put-apart, put-keeps, leads-other, leads-new, leads-on, leads-same, IsPlaceOf}
 

@@ -1,22 +1,22 @@
 -- The earliest slot that is ready has the first message, in order of arrival, that is its unit's next version.
-use Rattle.std.proofs.Common.{◌≡◌, ◌≢◌, ℕ, zero, suc, ◌+◌, ◌<◌, ◌≤◌, ◌⊎◌, nat_lt, Bool, true, false, List, length, map, take, get_or, Option, Some, None, if◌then◌else◌, sym, refl, ap, ◌∙◌, arith, inl, inr, ⊎_elim, subst}
+use Rattle.std.proofs.Common.{◌≡◌, ℕ, zero, suc, ◌+◌, ◌<◌, ◌≤◌, ◌⊎◌, Bool, true, false, List, length, map, take, get_or, Option, Some, None, sym, refl, ap, ◌∙◌, arith, inl, inr, ⊎_elim}
 use Rattle.std.specs.Prelude.{IfNone, IfSome}
 use Rattle.std.specs.Option.{option_to_list}
 use Rattle.std.proofs.lemmas.List.{get_or-map, get_or_past, length-map, length-append}
 use Rattle.std.proofs.lemmas.List.Sums.{position_or_len_is, passes_at_first}
-use Rattle.std.proofs.lemmas.Bool.{cases_lt, cases_eq, lt-ltb, le-ltb, ltb-true, eqb-true}
+use Rattle.std.proofs.lemmas.Bool.{cases_lt, lt-ltb, le-ltb, ltb-true, eqb-true}
 use Rattle.xv_base.specs.Units.{units, size}
 use Rattle.xv_base.proofs.Partition.{has_greatest_size}
 use Rattle.xv_slots.specs.Row.{content}
 use Rattle.xv_hold.specs.declared.hold.Held.{Held}
 use Rattle.xv_hold.specs.Tournament.{NoneReady, IsEarliest}
-use Rattle.xv_hold.specs.Messages.{Message, Hold, UnitHead, version, no_message, is_next, is_ready, ready_place, ready_message, ready_slot}
-use Rattle.xv_hold.specs.Arrival.{in_slot, head_of, slot_of, in_order, message_in, messages_of}
+use Rattle.xv_hold.specs.Messages.{Hold, UnitHead, version, no_message, is_next, is_ready, ready_place, ready_message, ready_slot}
+use Rattle.xv_hold.specs.Arrival.{in_slot, head_of, slot_of, in_order, message_in}
 use Rattle.xv_hold.specs.Kept.{State, IsKept, messages, seen_of, ready_by}
 use Rattle.xv_hold.proofs.Places.{order-at, order-place}
 use Rattle.xv_hold.proofs.Walk.{held-within}
 
-true_or_false : (b : Bool) → (b ≡ true) ⊎ (b ≡ false)
+pub true_or_false : (b : Bool) → (b ≡ true) ⊎ (b ≡ false)
 true_or_false true = inl refl
 true_or_false false = inr refl
 

@@ -7,3 +7,4 @@ pub mod Linking
 pub mod Chained
 pub mod Arriving
 pub mod Writing
+pub mod Scans

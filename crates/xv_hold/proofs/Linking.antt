@@ -1,12 +1,10 @@
 -- A message put into its unit's chain, or taken out as the first of it: the links lead on as they should.
-use Rattle.std.proofs.Common.{◌≡◌, ◌≢◌, ℕ, ◌+◌, ◌<◌, ◌≤◌, ◌⊎◌, List, length, get_or, set, Option, Some, None, sym, refl, ap, ◌∙◌, arith, inl, inr, ⊎_elim, subst}
-use Rattle.std.proofs.lemmas.List.{get_or-set_same, get_or-set_other, length-set}
+use Rattle.std.proofs.Common.{◌≡◌, ◌≢◌, ℕ, ◌<◌, ◌≤◌, ◌⊎◌, List, Option, Some, None, sym, refl, ap, ◌∙◌, arith, inl, inr, ⊎_elim, subst}
 use Rattle.std.proofs.lemmas.Bool.{cases_lt, cases_eq}
 use Rattle.xv_hold.specs.declared.hold.Held.{Held}
 use Rattle.xv_hold.specs.Arrival.{in_slot}
-use Rattle.xv_hold.specs.Chains.{link, IsLeastAbove, LeadsAbove, IsChained, IsLinkBelow, IsLastBelow}
+use Rattle.xv_hold.specs.Chains.{link, IsLeastAbove, LeadsAbove}
 use Rattle.xv_hold.proofs.Places.{none_or_some}
-use Rattle.xv_hold.proofs.Walk.{held-within}
 
 -- `more` has what `slots` has, and a message in a slot that is free there
 pub record IsPut (slots more : List (Option Held)) (slot : ℕ) (g : Held) : Type 0 where

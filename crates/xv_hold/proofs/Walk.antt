@@ -1,10 +1,10 @@
 -- A walk along a chain.
-use Rattle.std.proofs.Common.{◌≡◌, ◌≢◌, ℕ, ◌+◌, ◌-◌, ◌<◌, ◌≤◌, ◌⊎◌, true, false, List, length, get_or, Option, Some, None, sym, refl, ap, ◌∙◌, arith, inl, inr, ⊎_elim, subst, rules}
+use Rattle.std.proofs.Common.{◌≡◌, ℕ, ◌+◌, ◌-◌, ◌<◌, true, false, List, length, Option, Some, None, sym, ap, ◌∙◌, arith, inl, inr, ⊎_elim}
 use Rattle.std.proofs.lemmas.List.{get_or_past}
-use Rattle.std.proofs.lemmas.Bool.{cases_lt, cases_eq, lt-ltb, le-ltb}
+use Rattle.std.proofs.lemmas.Bool.{cases_lt, le-ltb}
 use Rattle.xv_hold.specs.declared.hold.Held.{Held}
 use Rattle.xv_hold.specs.Arrival.{in_slot}
-use Rattle.xv_hold.specs.Chains.{link, is_below, IsWalkable, IsLinkBelow, IsLastBelow}
+use Rattle.xv_hold.specs.Chains.{link, is_below, IsWalkable, IsLinkBelow}
 
 pub record IsAt (slots : List (Option Held)) (links : List (Option ℕ)) (unit version at : ℕ) : Type 0 where
   pub link_in : at < length links

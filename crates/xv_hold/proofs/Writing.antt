@@ -1,15 +1,15 @@
 -- The message that is ready is written and taken out: the list is without it, and the hold keeps what each hold keeps.
-use Rattle.std.proofs.Common.{◌≡◌, ◌≢◌, ℕ, suc, ◌+◌, ◌-◌, ◌^◌, ◌<◌, ◌≤◌, ◌⊎◌, ◌==◌, Bool, true, false, cond, List, [], ◌∷◌, ◌++◌, length, map, get_or, set, take, drop, remove, sum, count_by, Option, Some, None, sym, refl, ap, ◌∙◌, arith, inl, inr, ⊎_elim, subst, eq-eqb, ne_eqb, eqb-true}
+use Rattle.std.proofs.Common.{◌≡◌, ◌≢◌, ℕ, suc, ◌+◌, ◌^◌, ◌<◌, ◌⊎◌, cond, List, [], ◌∷◌, ◌++◌, length, map, get_or, set, take, drop, remove, count_by, Option, Some, None, sym, refl, ap, ◌∙◌, arith, inl, inr, ⊎_elim, subst, ne_eqb, eqb-true}
 use Rattle.std.specs.Prelude.{IfSome}
 use Rattle.std.specs.List.{sum_by}
 use Rattle.std.proofs.lemmas.List.{ext_get_or, map-append, take-map, drop-map, get_or-map, length-map, length_push, get_or_push, get_or_append_left, get_or-set_same, get_or-set_other, length-set}
 use Rattle.std.proofs.lemmas.List.Edits.{length-remove}
 use Rattle.std.proofs.lemmas.List.Sums.{sum_by-set, sum_by-remove}
 use Rattle.std.proofs.lemmas.Bool.{cases_lt, cases_eq}
-use Rattle.xv_base.specs.Units.{Shape, units, size}
-use Rattle.xv_slots.specs.Row.{Row, content}
+use Rattle.xv_base.specs.Units.{size}
+use Rattle.xv_slots.specs.Row.{content}
 use Rattle.xv_hold.specs.declared.hold.Held.{Held}
-use Rattle.xv_hold.specs.Messages.{Message, Hold, UnitHead, no_message, is_of, is_next, ready_place, ready_message, written}
+use Rattle.xv_hold.specs.Messages.{Message, UnitHead, no_message, is_of, ready_place, ready_message, written}
 use Rattle.xv_hold.specs.Arrival.{in_slot, head_of, slot_of, in_order, message_in}
 use Rattle.xv_hold.specs.Chains.{link, LeadsAbove}
 use Rattle.xv_hold.specs.Kept.{State, IsKept, IsHeldIn, messages, seen_of, ready_by, ready_after, with_next, has_unit}

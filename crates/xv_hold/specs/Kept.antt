@@ -1,5 +1,5 @@
 -- What a hold keeps: its parts as plain values, what is seen of them, and what holds of them.
-use Rattle.std.specs.Prelude.{◌≡◌, ◌<◌, ◌≤◌, ◌^◌, ℕ, ◌+◌, ◌==◌, Bool, false, List, length, map, sum, set, get_or, count_by, Option, Some, None, if◌then◌else◌}
+use Rattle.std.specs.Prelude.{◌≡◌, ◌<◌, ◌^◌, ℕ, ◌+◌, ◌==◌, Bool, false, List, length, map, sum, set, get_or, count_by, Option, Some, None, if◌then◌else◌}
 use Rattle.xv_base.specs.Units.{Shape, units, max_size}
 use Rattle.xv_base.specs.Layout.{IsGood}
 use Rattle.xv_slots.specs.Row.{Row}

@@ -4,3 +4,4 @@ pub mod Arrival
 pub mod Chains
 pub mod Kept
 pub mod Fields
+pub mod Beside

@@ -25,7 +25,8 @@ struct Held {
 ///
 /// A message lies in a slot, in no order. The messages of a unit are a chain with rising versions: a link leads from
 /// the unit to its first, and one from each message to the next. A slot is ready where its message is its unit's
-/// next version, which only the first of a chain can be.
+/// next version, which only the first of a chain can be. So a message that arrives is put into its chain by a walk
+/// along it, one that is written shows which comes next, and the rest is one path of the ready slots' tournament.
 #[derive(Drop)]
 pub struct Hold {
     layout: Layout,
@@ -39,7 +40,7 @@ pub struct Hold {
     free: Vec<u32>,
     applied: Vec<u32>,
     recorded: Vec<u64>,
-    /// How many messages have arrived.
+    /// How many messages have arrived. Each had a version of its own, so the number cannot run over.
     arrivals: u64,
 }
 
@@ -215,7 +216,8 @@ fn all_slots(alloc: Global, count: u32) -> Result<Vec<u32>, NoMemory>
     Ok(slots)
 }
 
-/// The number by which a slot is ready once this version of its message's unit was written.
+/// The number by which a slot is ready once this version of its message's unit was written. One more than the
+/// greatest version is no version, so they are compared as wider numbers.
 fn ready_after(slot: &Option<Held>, version: u32) -> Option<u64>
     ensures { result ≡ ready_after version slot.now }
 {

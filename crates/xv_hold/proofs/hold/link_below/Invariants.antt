@@ -1,5 +1,3 @@
-use Rattle.std.proofs.Common.{◌<◌, length}
-use Rattle.xv_hold.specs.Chains.{IsLinkBelow}
 use Rattle.xv_hold.proofs.Walk.{IsAt, left}
 use Rattle.xv_hold.specs.Arrival.{in_slot}
 use Rattle.xv_hold.proofs.hold.link_below.Given as goal

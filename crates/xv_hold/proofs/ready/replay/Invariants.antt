@@ -1,4 +1,3 @@
-use Rattle.std.proofs.Common.{◌≡◌, ◌<◌, ◌+◌, ◌/◌, drop}
 use Rattle.xv_hold.proofs.Matches.{IsReplayed}
 use Rattle.xv_hold.proofs.ready.replay.Given as goal
 

@@ -1,5 +1,4 @@
-use Rattle.std.proofs.Common.{rules, ◌≡◌, ◌+◌, ◌<◌, ◌^◌, ◌∷◌, length, get_or, set, subst, sym, ap, ◌∙◌, arith, Some, None}
-use Rattle.std.specs.Prelude.{IfSome}
+use Rattle.std.proofs.Common.{rules, ◌≡◌, ◌+◌, ◌<◌, ◌^◌, length, subst, sym, ap, ◌∙◌, arith, None}
 use Rattle.std.proofs.lemmas.List.{get_or_read, length-set}
 use Rattle.xv_hold.specs.Messages.{Hold, UnitHead, ready_slot, ready_message, written}
 use Rattle.xv_hold.specs.Fields.{state_of}

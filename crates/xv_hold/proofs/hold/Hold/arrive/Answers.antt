@@ -1,4 +1,4 @@
-use Rattle.std.proofs.Common.{rules, ◌≡◌, ◌+◌, ◌<◌, ◌≤◌, ◌∷◌, length, get_or, subst, sym, ap, ◌∙◌, arith, None}
+use Rattle.std.proofs.Common.{rules, ◌≡◌, ◌<◌, length, get_or, subst, sym, arith, None}
 use Rattle.std.proofs.lemmas.List.{get_or_read}
 use Rattle.xv_base.specs.Units.{units, size}
 use Rattle.xv_hold.specs.Messages.{Hold, version, copies}

@@ -1,9 +1,6 @@
-use Rattle.std.proofs.Common.{rules, ◌≡◌, ◌+◌, ◌≤◌, ◌<◌, ◌^◌, ◌∙◌, replicate, length, None, arith, ap}
-use Rattle.std.proofs.lemmas.List.FromFn.{length-range_with_len}
-use Rattle.std.specs.List.{range_with_len}
+use Rattle.std.proofs.Common.{rules, ◌≡◌, ◌+◌, ◌<◌, ◌^◌, ◌∙◌, replicate, None, ap}
 use Rattle.xv_base.specs.Units.{units, max_size}
 use Rattle.xv_slots.specs.Row.{empty}
-use Rattle.xv_hold.specs.Fields.{state_of}
 use Rattle.xv_hold.proofs.Fresh.{fresh-kept}
 use Rattle.xv_hold.proofs.hold.Hold.new.Goals as goal
 

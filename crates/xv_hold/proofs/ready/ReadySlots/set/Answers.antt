@@ -1,7 +1,6 @@
-use Rattle.std.proofs.Common.{rules, ◌≡◌, ◌+◌, drop, set, ap, ◌∙◌, arith}
+use Rattle.std.proofs.Common.{◌≡◌, ◌+◌, drop, set, ap, ◌∙◌}
 use Rattle.std.proofs.lemmas.List.{with_items_is}
 use Rattle.std.specs.Vec.{with_items, with_item}
-use Rattle.xv_hold.specs.Tournament.{entry_of}
 use Rattle.xv_hold.proofs.Matches.{set-seen}
 use Rattle.xv_hold.proofs.ready.ReadySlots.set.Goals as goal
 
