@@ -6,3 +6,4 @@ pub mod LaneSteps
 pub mod PutSteps
 pub mod MessageSteps
 pub mod FreshLanes
+pub mod BackSteps

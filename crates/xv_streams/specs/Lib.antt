@@ -2,3 +2,4 @@ pub mod Taking
 pub mod Lanes
 pub mod Gathered
 pub mod Streamed
+pub mod Returned

@@ -6,6 +6,7 @@
 // list, and no call of one stream touches another. Only `Streams::new` takes memory.
 #![tactic(auto)]
 
+mod back;
 mod filling;
 mod framing;
 mod lane;
@@ -13,6 +14,7 @@ mod streams;
 #[cfg(test)]
 mod tests;
 
+pub use back::BackWire;
 pub use filling::{Filled, fill};
 pub use framing::fill_frame;
 pub use lane::Lane;

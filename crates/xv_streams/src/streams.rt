@@ -98,7 +98,8 @@ impl<W: Wire> Streams<W> {
         requires unit_in { head.unit.0 < units self.old.shape }
         requires made { 1 ≤ head.version }
         requires whole { length bytes.now ≡ size self.old.shape head.unit.0 }
-        requires room { MayCall (PutBytes (spelled (UnitFrame (message head bytes.now)))) (lane self.old stream).wire }
+        requires room { length (lane self.old stream).wire.transit + (24 + length bytes.now) ≤ (lane self.old stream).wire.capacity }
+        requires countable { IfSome (lane self.old stream).wire.counted (λ c. c.puts < 2 ^ 63) }
         ensures others { OnlyLane stream self.old self.new }
         ensures put { FramePut (UnitFrame (message head bytes.now)) (is_err result) (lane self.old stream) (lane self.new stream) }
     {

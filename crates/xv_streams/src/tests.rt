@@ -1,6 +1,6 @@
 ghost use Rattle.std.specs.Prelude.{◌≡◌, [], IfOk};
 
-use crate::Streams;
+use crate::{BackWire, Streams};
 use std::alloc::Global;
 use std::test::Fail;
 use xv_base::{Failed, Layout, UnitHead, UnitId};
@@ -45,5 +45,18 @@ fn passes_in_any_pieces(rt: HostRuntime) -> Result<(), Fail> {
             assert!(rt; false);
         }
     }
+    Ok(())
+}
+
+#[test]
+fn passes_acknowledgements_back(rt: HostRuntime) -> Result<(), Fail> {
+    let mut back = BackWire::new(wire(rt.alloc(), 10, 1)?);
+    assert_eq!(rt; back.put_ack(258), Ok(()));
+    assert_eq!(rt; back.waiting(), 1);
+    assert_eq!(rt; back.take_ack(), Err(Failed));
+    assert_eq!(rt; back.take_ack(), Ok(Some(258)));
+    assert_eq!(rt; back.take_ack(), Ok(None));
+    assert_eq!(rt; back.waiting(), 0);
+    let _ = back.into_wire();
     Ok(())
 }

@@ -38,7 +38,7 @@ fn gives_bytes_in_any_pieces(rt: HostRuntime) -> Result<(), Fail> {
         assert_eq!(rt; wire.take(&mut into), Ok(first));
         assert_eq!(rt; into[0], b'a');
         let rest = drain(alloc, &mut wire)?;
-        assert_eq!(rt; rest.len() as u32, 48 - first);
+        assert_eq!(rt; rest.len() + first as usize, 48);
         assert_eq!(rt; rest.last().copied(), Some(b'X'));
     }
     Ok(())
@@ -53,7 +53,8 @@ fn fails_by_its_plan(rt: HostRuntime) -> Result<(), Fail> {
     assert_eq!(rt; wire.put(&[9; 24]), Err(Failed));
     assert_eq!(rt; wire.put(&[2; 24]), Ok(()));
     assert_eq!(rt; wire.take(&mut into), Ok(20));
-    assert_eq!(rt; wire.take(&mut into[..4]), Ok(4));
+    let mut small = [0; 4];
+    assert_eq!(rt; wire.take(&mut small), Ok(4));
     assert_eq!(rt; wire.take(&mut into), Err(Failed));
     assert_eq!(rt; wire.take(&mut into), Ok(20));
     assert_eq!(rt; into[0], 2);

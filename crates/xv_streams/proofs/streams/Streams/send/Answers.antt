@@ -1,5 +1,5 @@
 use Rattle.std.proofs.Common.{◌≡◌, ℕ, ◌+◌, ◌*◌, ◌^◌, ◌<◌, ◌≤◌, List, ◌++◌, length, get_or, set, take, drop, sym, ap, ◌∙◌, subst, arith, rules, refl, Bool}
-use Rattle.std.specs.Prelude.{is_err}
+use Rattle.std.specs.Prelude.{is_err, IfSome}
 use Rattle.std.proofs.lemmas.List.{take_at, with_items_is}
 use Rattle.std.specs.Vec.{with_items, with_item}
 use Rattle.xv_base.specs.Units.{units, size}
@@ -66,8 +66,14 @@ put_frame-requires-clause-room g c =
     let kept : length c.encode_unit-size.new.into ≡ s.frame.len = c.encode_unit-size.auto.into ∙ c.deref_mut.ensures.len in
     let frame : take c.encode_unit-size.result c.deref.result.now ≡ spelled fr =
     framed (spelled fr) c.deref_mut.result.now c.encode_unit-size.new.into c.deref.result.now s.frame.items c.encode_unit-size.result s.frame.len c.encode_unit-size.ensures.spelled long c.deref.ensures.value kept in
-    subst (λ (b : List ℕ). MayCall (PutBytes b) (told w)) (sym frame)
-    (subst (λ (x : LaneSeen). MayCall (PutBytes (spelled fr)) x.wire) at.seen (subst (λ (v : Streamed). MayCall (PutBytes (spelled fr)) (lane v c.args.stream).wire) (sym c.self.view_is) c.requires.room))
+    let room : length (told w).transit + (24 + length c.args.bytes.now) ≤ (told w).capacity =
+    subst (λ (x : LaneSeen). length x.wire.transit + (24 + length c.args.bytes.now) ≤ x.wire.capacity) at.seen
+    (subst (λ (v : Streamed). length (lane v c.args.stream).wire.transit + (24 + length c.args.bytes.now) ≤ (lane v c.args.stream).wire.capacity) (sym c.self.view_is) c.requires.room) in
+    let countable : IfSome (told w).counted (λ k. k.puts < 2 ^ 63) =
+    subst (λ (x : LaneSeen). IfSome x.wire.counted (λ k. k.puts < 2 ^ 63)) at.seen
+    (subst (λ (v : Streamed). IfSome (lane v c.args.stream).wire.counted (λ k. k.puts < 2 ^ 63)) (sym c.self.view_is) c.requires.countable) in
+    let size' : length (spelled fr) ≡ 24 + length c.args.bytes.now = length-unit c.args.head c.args.bytes.now in
+    subst (λ (b : List ℕ). MayCall (PutBytes b) (told w)) (sym frame) (omega (arith, size'), omega (arith, size', room), countable)
 
 pub put_frame-requires-clause-few : goal.put_frame-requires-clause-few
 put_frame-requires-clause-few g c =
