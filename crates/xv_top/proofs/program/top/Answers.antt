@@ -20,10 +20,13 @@ returns-in-Ok-write_out-clause-bad_input g c = λ _.
 pub returns-in-Err-write_out-clause-front_of_text : goal.returns-in-Err-write_out-clause-front_of_text
 returns-in-Err-write_out-clause-front_of_text g c = λ _ _.
     let refused = rw c.in-Err-Refused.field-0-is at c.in-Err-Refused.ensures.refused in
-    inl (c.in-Err-Refused.fault, record {
-      refused = refused;
-      front = subst (λ (line : List ℕ). TookFront (g.O.Sink.taken c.args.output.now) (g.O.Sink.taken c.write_out-in-Err-Refused.new.output) line) (c.bytes.ensures.exactly ∙ (c.print_refusal.ensures ∙ ap (λ (fault : LineFault). refused_line fault) c.in-Err-Refused.fault-is)) c.in-Err-write_out.ensures.front;
-    })
+    inl (
+      c.in-Err-Refused.fault,
+      record {
+        refused = refused;
+        front = subst (λ (line : List ℕ). TookFront (g.O.Sink.taken c.args.output.now) (g.O.Sink.taken c.write_out-in-Err-Refused.new.output) line) (c.bytes.ensures.exactly ∙ (c.print_refusal.ensures ∙ ap (λ (fault : LineFault). refused_line fault) c.in-Err-Refused.fault-is)) c.in-Err-write_out.ensures.front;
+      },
+    )
 
 pub returns-in-Ok-replay-clause-fine : goal.returns-in-Ok-replay-clause-fine
 returns-in-Ok-replay-clause-fine g c = λ _.
