@@ -7,4 +7,5 @@ pub mod Linking
 pub mod Chained
 pub mod Arriving
 pub mod Writing
+pub mod Heads
 pub mod Scans

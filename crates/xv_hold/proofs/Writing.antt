@@ -1,8 +1,8 @@
 -- The message that is ready is written and taken out: the list is without it, and the hold keeps what each hold keeps.
-use Rattle.std.proofs.Common.{◌≡◌, ◌≢◌, ℕ, suc, ◌+◌, ◌^◌, ◌<◌, ◌⊎◌, cond, List, [], ◌∷◌, ◌++◌, length, map, get_or, set, take, drop, remove, count_by, Option, Some, None, sym, refl, ap, ◌∙◌, arith, inl, inr, ⊎_elim, subst, ne_eqb, eqb-true}
+use Rattle.std.proofs.Common.{◌≡◌, ◌≢◌, ℕ, ◌+◌, ◌^◌, ◌<◌, ◌⊎◌, cond, List, [], ◌∷◌, ◌++◌, length, map, get_or, set, take, remove, count_by, Option, Some, None, sym, refl, ap, ◌∙◌, arith, inl, inr, ⊎_elim, subst, ne_eqb, eqb-true}
 use Rattle.std.specs.Prelude.{IfSome}
 use Rattle.std.specs.List.{sum_by}
-use Rattle.std.proofs.lemmas.List.{ext_get_or, map-append, take-map, drop-map, get_or-map, length-map, length_push, get_or_push, get_or_append_left, get_or-set_same, get_or-set_other, length-set}
+use Rattle.std.proofs.lemmas.List.{ext_get_or, get_or-map, length-map, length_push, get_or_push, get_or_append_left, get_or-set_same, get_or-set_other, length-set}
 use Rattle.std.proofs.lemmas.List.Edits.{length-remove}
 use Rattle.std.proofs.lemmas.List.Sums.{sum_by-set, sum_by-remove}
 use Rattle.std.proofs.lemmas.Bool.{cases_lt, cases_eq}
@@ -19,12 +19,7 @@ use Rattle.xv_hold.proofs.FirstReady.{IsReadyIn, ready-at, ready-length, message
 use Rattle.xv_hold.proofs.Linking.{IsPut, put-apart, put-keeps}
 use Rattle.xv_hold.proofs.Chained.{chained-less}
 use Rattle.xv_hold.proofs.Arriving.{map-same, unwritten}
-
-map-remove : {X : Type 0} (f : ℕ → X) (xs : List ℕ) (i : ℕ) → map f (remove xs i) ≡ remove (map f xs) i
-map-remove f xs i =
-    map-append f (take i xs) (drop (suc i) xs)
-    ∙ ap (λ a. a ++ map f (drop (suc i) xs)) (sym (take-map f i xs))
-    ∙ ap (λ b. take i (map f xs) ++ b) (sym (drop-map f (suc i) xs))
+use Rattle.xv_hold.proofs.Heads.{map-remove}
 
 -- the state after the message was written
 abbrev pub written_state : State → ℕ → UnitHead → State
@@ -222,17 +217,17 @@ module _ (s : State) (h : IsKept s) (slot : ℕ) (r : IsReadyIn s slot) (small :
       let slots = (written_state s slot g.head).slots in
       let by = ready_by (set s.applied g.head.unit.0 g.head.version) in
       let sizes : length (map by slots) ≡ length s.slots = length-map slots by ∙ length-set s.slots slot None in
+      let P : Option ℕ → Type 0 = λ to. with_next slots to g.head.version without ≡ map by slots in
       ⊎_elim
       (λ none.
-      let is : (written_state s slot g.head).ready ≡ without = ap (λ to. with_next slots to g.head.version without) none in
-      is ∙ ext_get_or None without (map by slots) (omega (arith, length-set s.ready slot None, ready-length s h))
-      (λ j l. ready-none none j ∙ sym (get_or-map by slots j None None (omega (arith, length-set s.ready slot None, ready-length s h, length-set s.slots slot None)))))
+      let size : length without ≡ length s.slots = length-set s.ready slot None ∙ ready-length s h in
+      subst P (sym none) (ext_get_or None without (map by slots) (size ∙ sym sizes)
+      (λ j l. ready-none none j ∙ sym (get_or-map by slots j None None (omega (arith, length-set s.slots slot None))))))
       (λ some.
       let full : List (Option ℕ) = set without some.0 (ready_after g.head.version (in_slot slots some.0)) in
-      let is : (written_state s slot g.head).ready ≡ full = ap (λ to. with_next slots to g.head.version without) some.1 in
       let size : length full ≡ length s.slots = length-set without some.0 _ ∙ length-set s.ready slot None ∙ ready-length s h in
-      is ∙ ext_get_or None full (map by slots) (size ∙ sym sizes)
-      (λ j l. ready-some some.0 some.1 j ∙ sym (get_or-map by slots j None None (omega (arith, length-set s.slots slot None)))))
+      subst P (sym some.1) (ext_get_or None full (map by slots) (size ∙ sym sizes)
+      (λ j l. ready-some some.0 some.1 j ∙ sym (get_or-map by slots j None None (omega (arith, length-set s.slots slot None))))))
       (none_or_some (link s.links slot))
 
   -- the free slots, with it

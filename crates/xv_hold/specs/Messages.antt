@@ -1,5 +1,5 @@
 -- What is seen of a hold.
-use Rattle.std.specs.Prelude.{ℕ, ◌+◌, ◌-◌, ◌==◌, ◌&&◌, nat_lt, Bool, List, [], ◌∷◌, ◌++◌, length, set, remove, replicate, get_or, count_by, Option, Some, None, if◌then◌else◌}
+use Rattle.std.specs.Prelude.{ℕ, ◌+◌, ◌-◌, ◌==◌, ◌&&◌, nat_lt, Bool, List, [], ◌∷◌, ◌++◌, length, map, set, remove, replicate, get_or, count_by, Option, Some, None, if◌then◌else◌}
 use Rattle.std.specs.List.{position_or_len}
 use Rattle.xv_base.specs.Units.{Shape, units}
 pub use Rattle.xv_base.specs.declared.operation.UnitHead.{UnitHead}
@@ -18,6 +18,13 @@ pub record Hold : Type 0 where
   pub messages : List Message
   pub applied : List ℕ
   pub recorded : List ℕ
+
+-- the heads of messages, and their contents
+abbrev pub heads : List Message → List UnitHead
+heads messages = map (λ m. m.head) messages
+
+abbrev pub contents : List Message → List (List ℕ)
+contents messages = map (λ m. m.content) messages
 
 -- what stands for a message that is not there
 abbrev pub no_head : UnitHead

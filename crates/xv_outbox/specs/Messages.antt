@@ -1,5 +1,5 @@
 -- What is seen of an outbox.
-use Rattle.std.specs.Prelude.{ℕ, ◌+◌, ◌-◌, ◌==◌, List, [], ◌∷◌, ◌++◌, length, drop, set, replicate, get_or, count_by}
+use Rattle.std.specs.Prelude.{ℕ, ◌+◌, ◌-◌, ◌==◌, List, [], ◌∷◌, ◌++◌, length, map, drop, set, replicate, get_or, count_by}
 use Rattle.xv_base.specs.Units.{Shape, units}
 pub use Rattle.xv_base.specs.declared.operation.UnitHead.{UnitHead}
 
@@ -14,6 +14,13 @@ pub record Outbox : Type 0 where
   pub limit : ℕ
   pub messages : List Message
   pub issued : List ℕ
+
+-- the heads of messages, and their contents
+abbrev pub heads : List Message → List UnitHead
+heads messages = map (λ m. m.head) messages
+
+abbrev pub contents : List Message → List (List ℕ)
+contents messages = map (λ m. m.content) messages
 
 -- the message at a place from the front, with something in the place of what is not there
 abbrev pub no_head : UnitHead
