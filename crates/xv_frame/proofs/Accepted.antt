@@ -1,22 +1,17 @@
 -- What is read of a spelling is what was spelled, and each spelling is accepted.
-use Rattle.std.proofs.Common.{◌≡◌, ℕ, zero, suc, ◌+◌, ◌-◌, ◌*◌, ◌^◌, ◌<◌, ◌≤◌, List, [], ◌∷◌, ◌++◌, length, get_or, take, drop, sym, ap, ◌∙◌, arith, refl, Bool, true, false, not, ◌&&◌, ◌||◌, eqb, ltb, Option, Some, None, Result, Ok, Err, subst, replicate, length-append, length-drop, append_assoc}
+use Rattle.std.proofs.Common.{◌≡◌, ℕ, zero, suc, ◌+◌, ◌*◌, ◌^◌, ◌<◌, ◌≤◌, List, [], ◌∷◌, ◌++◌, length, take, drop, sym, ap, ◌∙◌, arith, refl, Bool, true, false, eqb, subst, replicate, length-append, append_assoc}
 use Rattle.std.specs.Prelude.{if◌then◌else◌}
-use Rattle.std.proofs.lemmas.Bool.{lt-ltb, le-ltb, eq-eqb, ltb-false, false≢true}
-use Rattle.std.proofs.lemmas.Bool.Decides.{eqb_tells}
-use Rattle.std.proofs.lemmas.List.{take_at, drop_at, drop-drop, append-nil}
+use Rattle.std.proofs.lemmas.List.{take_at, drop_at, drop-drop}
 use Rattle.xv_base.specs.declared.operation.UnitHead.{UnitHead}
-use Rattle.xv_base.specs.Units.{Shape, units, size}
+use Rattle.xv_base.specs.Units.{Shape, size}
 use Rattle.xv_base.specs.Layout.{IsGood}
 use Rattle.xv_base.proofs.Within.{good_within}
 use Rattle.xv_base.proofs.Partition.{partitions_bytes}
-use Rattle.xv_frame.specs.declared.groups.GroupFault.{GroupFault}
-use Rattle.xv_frame.specs.declared.groups.GroupFault.TheVariants as group
-use Rattle.xv_frame.specs.Fields.{word_at, long_at, short_at, zero_at, all_zero}
-use Rattle.xv_frame.specs.Frame.{Each, Message, message, Frame, UnitFrame, AckFrame, GroupFrame, IsFrame, IsMessage, IsGroup, unit_head, ack, entry, entry_head, entries, group_head, spelled, all_spelled}
-use Rattle.xv_frame.specs.Reading.{front_head, front_message, entry_numbers, entry_message, entry_size, is_marked, front_entries, front_group, front_frame, some_frames, frames_in}
-use Rattle.xv_frame.proofs.WhatTestsSay.{zeros-are, zeros-all}
-use Rattle.xv_frame.proofs.Entries.{entry-marked, entry-whole}
-use Rattle.xv_frame.proofs.ReadHeads.{head-back, unit-back, content-follows, count-back, group-count-back, group-bytes-back, entries-follow, entry-head-back, entry-unit-back, entry-version-back, mark-back, entry-content-follows, length-unit-head, length-ack, length-group-head, length-entry-head}
+use Rattle.xv_frame.specs.Fields.{word_at, all_zero}
+use Rattle.xv_frame.specs.Frame.{Each, Message, message, Frame, UnitFrame, AckFrame, GroupFrame, IsFrame, IsMessage, IsGroup, unit_head, entry, entry_head, entries, group_head, spelled, all_spelled}
+use Rattle.xv_frame.specs.Reading.{front_message, entry_message, entry_size, is_marked, front_entries, front_group, front_frame, some_frames, frames_in}
+use Rattle.xv_frame.proofs.WhatTestsSay.{zeros-are}
+use Rattle.xv_frame.proofs.ReadHeads.{head-back, unit-back, content-follows, count-back, group-count-back, entries-follow, entry-head-back, entry-unit-back, mark-back, entry-content-follows, length-unit-head, length-ack, length-group-head, length-entry-head}
 
 -- a unit's number and size fit their fields
 pub unit-fits : (s : Shape) (m : Message) → IsGood s → IsMessage s m → m.head.unit.0 < 2 ^ 32

@@ -1,18 +1,18 @@
 -- Entries and groups that are accepted are spellings.
-use Rattle.std.proofs.Common.{◌≡◌, ℕ, zero, suc, ◌+◌, ◌-◌, ◌*◌, ◌^◌, ◌<◌, ◌≤◌, List, [], ◌∷◌, ◌++◌, length, get_or, take, drop, sym, ap, ◌∙◌, arith, refl, Bool, true, false, not, ◌&&◌, ◌||◌, eqb, ltb, Option, Some, None, Result, Ok, Err, subst, replicate, length-append, length-drop, append_assoc}
+use Rattle.std.proofs.Common.{◌≡◌, ℕ, zero, suc, ◌+◌, ◌-◌, ◌<◌, ◌≤◌, List, ◌++◌, length, get_or, take, drop, sym, ap, ◌∙◌, arith, refl, Bool, true, false, not, ◌||◌, eqb, ltb, Option, Some, None, Result, Ok, Err, subst, replicate, length-drop, append_assoc}
 use Rattle.std.specs.Prelude.{if◌then◌else◌, IfOk}
-use Rattle.std.proofs.lemmas.Bool.{eqb-true, ltb-true, ltb-false, false≢true}
+use Rattle.std.proofs.lemmas.Bool.{eqb-true, ltb-true, ltb-false}
 use Rattle.std.proofs.lemmas.Bool.Decides.{eqb_tells}
 use Rattle.std.proofs.lemmas.List.{take-append-drop, drop-drop, length-take, length-replicate, nil_from_length, get_or-drop}
 use Rattle.xv_base.specs.Units.{Shape, units, size}
 use Rattle.xv_frame.specs.declared.groups.GroupFault.{GroupFault}
 use Rattle.xv_frame.specs.declared.groups.GroupFault.TheVariants as group
-use Rattle.xv_frame.specs.Fields.{word_at, long_at, short_at, zero_at, all_zero}
-use Rattle.xv_frame.specs.Frame.{Each, Message, message, IsMessage, IsGroup, entry, entry_head, entries, group_head, GroupFrame, spelled}
+use Rattle.xv_frame.specs.Fields.{word_at, short_at, zero_at}
+use Rattle.xv_frame.specs.Frame.{Each, message, IsMessage, IsGroup, entry, entry_head, entries, group_head, GroupFrame, spelled}
 use Rattle.xv_frame.specs.Faults.{content_fault, entry_fault, entries_fault, first_of, group_head_fault, group_fault, count_or, read_group}
 use Rattle.xv_frame.specs.Reading.{entry_numbers, entry_message, entry_size, is_marked, front_entries, front_group}
 use Rattle.xv_frame.proofs.Numbers.{AreBytes, word-fits, long-fits}
-use Rattle.xv_frame.proofs.WhatTestsSay.{no-fault, not-false, both-true, both-false, zeros-all}
+use Rattle.xv_frame.proofs.WhatTestsSay.{no-fault, not-false, both-false, zeros-all}
 use Rattle.xv_frame.proofs.Written.{entry-head-written, group-head-written}
 use Rattle.xv_frame.proofs.Entries.{entry-marked, entry-whole}
 

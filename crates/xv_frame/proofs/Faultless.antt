@@ -1,5 +1,5 @@
 -- Spellings have no fault.
-use Rattle.std.proofs.Common.{◌≡◌, ℕ, zero, suc, ◌+◌, ◌-◌, ◌*◌, ◌^◌, ◌<◌, ◌≤◌, List, [], ◌∷◌, ◌++◌, length, get_or, take, drop, sym, ap, ◌∙◌, arith, refl, Bool, true, false, not, ◌&&◌, ◌||◌, eqb, ltb, Option, Some, None, Result, Ok, Err, subst, length-append, append_assoc}
+use Rattle.std.proofs.Common.{◌≡◌, ℕ, ◌+◌, ◌-◌, ◌^◌, ◌<◌, ◌≤◌, List, [], ◌∷◌, ◌++◌, length, get_or, take, drop, sym, ap, ◌∙◌, arith, refl, Bool, true, false, not, ◌&&◌, ◌||◌, eqb, ltb, Option, Some, None, Ok, length-append, append_assoc}
 use Rattle.std.specs.Prelude.{if◌then◌else◌}
 use Rattle.std.proofs.lemmas.Bool.{lt-ltb, le-ltb, eq-eqb}
 use Rattle.std.proofs.lemmas.Bool.Decides.{eqb_tells}
@@ -11,18 +11,16 @@ use Rattle.xv_base.proofs.Within.{good_within}
 use Rattle.xv_base.proofs.Partition.{partitions_bytes}
 use Rattle.xv_frame.specs.declared.heads.Head.{Head}
 use Rattle.xv_frame.specs.declared.heads.Head.TheVariants.{Unit as UnitHeadOf, Ack}
-use Rattle.xv_frame.specs.declared.heads.FrameFault.{FrameFault}
 use Rattle.xv_frame.specs.declared.heads.FrameFault.TheVariants as fault
-use Rattle.xv_frame.specs.declared.groups.GroupFault.{GroupFault}
 use Rattle.xv_frame.specs.declared.groups.GroupFault.TheVariants as group
 use Rattle.xv_frame.specs.Fields.{word_at, short_at, zero_at, all_zero}
-use Rattle.xv_frame.specs.Frame.{Each, Message, message, Frame, UnitFrame, AckFrame, GroupFrame, IsFrame, IsMessage, IsGroup, unit_head, ack, entry, entry_head, entries, group_head, spelled}
+use Rattle.xv_frame.specs.Frame.{Each, Message, Frame, UnitFrame, AckFrame, GroupFrame, IsFrame, IsMessage, IsGroup, unit_head, ack, entry, entry_head, entries, group_head, spelled}
 use Rattle.xv_frame.specs.Heads.{IsHead, head_spelled}
-use Rattle.xv_frame.specs.Faults.{unit_fault, ack_fault, head_fault, head_or, read_head, content_fault, entry_fault, entries_fault, first_of, group_head_fault, group_fault, count_or, read_group}
-use Rattle.xv_frame.specs.Reading.{front_head, entry_size, is_marked, front_entries}
+use Rattle.xv_frame.specs.Faults.{unit_fault, ack_fault, head_or, read_head, content_fault, entry_fault, entries_fault, first_of, group_head_fault, count_or, read_group}
+use Rattle.xv_frame.specs.Reading.{front_head}
 use Rattle.xv_frame.specs.Size.{size_of_head, size_of_group, frame_size}
 use Rattle.xv_frame.proofs.ReadHeads.{length-unit-head, length-ack, head-back, unit-back, version-back, size-back, unit-zeros, ack-zeros, ack-more-zeros, group-zeros, entry-zeros, count-back, group-count-back, group-bytes-back, entries-follow, entry-unit-back, entry-version-back, mark-back, entry-content-follows, length-group-head, length-entry-head}
-use Rattle.xv_frame.proofs.Accepted.{unit-fits, size-fits, length-entries, EntryBack, entry-back}
+use Rattle.xv_frame.proofs.Accepted.{unit-fits, length-entries, entry-back}
 
 pass : {F : Type 0} (t : Bool) (f : F) (x : Option F) → t ≡ false → (if t then Some f else x) ≡ x
 pass t f x e = ap (λ b. if b then Some f else x) e

@@ -1,12 +1,10 @@
 -- What is read of the spelling of a head, and that a head without a fault is spelled as it is read.
-use Rattle.std.proofs.Common.{◌≡◌, ℕ, ◌+◌, ◌*◌, ◌^◌, ◌<◌, ◌≤◌, List, [], ◌∷◌, ◌++◌, length, get_or, take, drop, sym, ap, ◌∙◌, arith, refl, true}
-use Rattle.std.proofs.lemmas.List.{take_at}
+use Rattle.std.proofs.Common.{◌≡◌, ℕ, ◌^◌, ◌<◌, List, ◌++◌, length, get_or, drop, refl, true}
 use Rattle.std.proofs.lemmas.Nat.{from_be_bytes-to_be_bytes_2, from_be_bytes-to_be_bytes_4, from_be_bytes-to_be_bytes_8}
 use Rattle.xv_base.specs.declared.operation.UnitHead.{UnitHead}
-use Rattle.xv_base.specs.Units.{Shape, units, size}
 use Rattle.xv_frame.specs.Fields.{short_bytes, word_bytes, long_bytes, short_at, word_at, long_at, zero_at}
-use Rattle.xv_frame.specs.Frame.{Message, message, unit_head, ack, group_head, entry_head}
-use Rattle.xv_frame.specs.Reading.{front_head, front_message, entry_numbers}
+use Rattle.xv_frame.specs.Frame.{unit_head, ack, group_head, entry_head}
+use Rattle.xv_frame.specs.Reading.{front_head, entry_numbers}
 
 pub unit-back : (h : UnitHead) (z : ℕ) (rest : List ℕ) → h.unit.0 < 2 ^ 32 → word_at (unit_head h z ++ rest) 4 ≡ h.unit.0
 unfolding word_at word_bytes

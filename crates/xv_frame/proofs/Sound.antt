@@ -1,15 +1,15 @@
 -- What is accepted is a spelling.
-use Rattle.std.proofs.Common.{◌≡◌, ℕ, ◌+◌, ◌^◌, ◌<◌, ◌≤◌, List, [], ◌∷◌, ◌++◌, length, get_or, take, drop, sym, ap, ◌∙◌, arith, refl, Bool, true, false, not, ◌&&◌, ◌||◌, eqb, ltb, Option, Some, None, Result, Ok, Err, subst}
+use Rattle.std.proofs.Common.{◌≡◌, ℕ, ◌<◌, ◌≤◌, List, length, get_or, sym, ap, ◌∙◌, arith, refl, Bool, true, false, not, ◌&&◌, ◌||◌, eqb, ltb, Option, Some, None, Result, subst}
 use Rattle.std.specs.Prelude.{if◌then◌else◌, IfOk}
-use Rattle.std.proofs.lemmas.Bool.{eqb-true, ltb-true, ltb-false, false≢true}
-use Rattle.std.proofs.lemmas.Bool.Decides.{eqb_tells, nat_tests}
+use Rattle.std.proofs.lemmas.Bool.{eqb-true, ltb-true, ltb-false}
+use Rattle.std.proofs.lemmas.Bool.Decides.{eqb_tells}
 use Rattle.xv_base.specs.Units.{Shape, units, size}
 use Rattle.xv_frame.specs.declared.heads.Head.{Head}
 use Rattle.xv_frame.specs.declared.heads.Head.TheVariants.{Unit as UnitHeadOf, Ack}
 use Rattle.xv_frame.specs.declared.heads.FrameFault.{FrameFault}
 use Rattle.xv_frame.specs.declared.heads.FrameFault.TheVariants as fault
-use Rattle.xv_frame.specs.Fields.{word_at, long_at, zero_at}
-use Rattle.xv_frame.specs.Frame.{unit_head, ack}
+use Rattle.xv_frame.specs.Fields.{word_at, zero_at}
+use Rattle.xv_frame.specs.Frame.{unit_head}
 use Rattle.xv_frame.specs.Heads.{IsHead, head_spelled}
 use Rattle.xv_frame.specs.Faults.{unit_fault, ack_fault, head_fault, head_or, read_head}
 use Rattle.xv_frame.specs.Reading.{front_head}

@@ -1,14 +1,11 @@
 -- Heads and entries without a fault are written as they were read.
-use Rattle.std.proofs.Common.{◌≡◌, ℕ, ◌+◌, ◌^◌, ◌<◌, ◌≤◌, List, [], ◌∷◌, ◌++◌, length, get_or, take, drop, sym, ap, ◌∙◌, arith, refl, true, false, replicate, append_assoc, length-drop}
+use Rattle.std.proofs.Common.{◌≡◌, ℕ, ◌+◌, ◌≤◌, List, [], ◌∷◌, ◌++◌, length, get_or, take, drop, sym, ap, ◌∙◌, arith, true, replicate, length-drop}
 use Rattle.std.proofs.Math.Seq.{take-add}
 use Rattle.std.proofs.lemmas.List.{get_or-drop, drop-drop, take_all}
-use Rattle.std.proofs.lemmas.Nat.{be_bytes_2, be_bytes_8}
-use Rattle.std.specs.Int.{w16, w64, to_be_bytes, from_be_bytes}
-use Rattle.xv_base.specs.declared.operation.UnitHead.{UnitHead}
-use Rattle.xv_frame.specs.Fields.{short_bytes, word_bytes, long_bytes, short_at, word_at, long_at, zero_at}
+use Rattle.xv_frame.specs.Fields.{short_at, word_at, zero_at}
 use Rattle.xv_frame.specs.Frame.{unit_head, ack, group_head, entry_head}
 use Rattle.xv_frame.specs.Reading.{front_head, entry_numbers}
-use Rattle.xv_frame.proofs.Numbers.{AreBytes, some-bytes, word-written, long-written, short-written}
+use Rattle.xv_frame.proofs.Numbers.{AreBytes, word-written, long-written, short-written}
 use Rattle.xv_frame.proofs.WhatTestsSay.{zeros-stand, two-stand, one-stands}
 
 -- parts of a list that lie one after another are one part

@@ -1,5 +1,5 @@
 -- What is wrong with bytes that are to be a frame: the first fault in the order of their fields.
-use Rattle.std.specs.Prelude.{ℕ, zero, suc, ◌+◌, ◌-◌, ◌==◌, nat_lt, Bool, ◌&&◌, ◌||◌, not, List, length, take, drop, Option, Some, None, Result, Ok, Err, if◌then◌else◌}
+use Rattle.std.specs.Prelude.{ℕ, zero, suc, ◌+◌, ◌-◌, ◌==◌, nat_lt, ◌&&◌, ◌||◌, not, List, length, drop, Option, Some, None, Result, Ok, Err, if◌then◌else◌}
 use Rattle.xv_base.specs.Units.{Shape, units, size}
 use Rattle.xv_frame.specs.declared.heads.Head.{Head}
 use Rattle.xv_frame.specs.declared.heads.Head.TheVariants.{Unit as UnitHeadOf, Ack}
@@ -7,7 +7,7 @@ use Rattle.xv_frame.specs.declared.heads.FrameFault.{FrameFault}
 use Rattle.xv_frame.specs.declared.heads.FrameFault.TheVariants as fault
 use Rattle.xv_frame.specs.declared.groups.GroupFault.{GroupFault}
 use Rattle.xv_frame.specs.declared.groups.GroupFault.TheVariants as group
-use Rattle.xv_frame.specs.Fields.{byte_at, short_at, word_at, all_zero, zero_at}
+use Rattle.xv_frame.specs.Fields.{byte_at, short_at, word_at, zero_at}
 use Rattle.xv_frame.specs.Reading.{front_head, is_marked, entry_size}
 
 -- of the head of a unit frame or of an acknowledgement

@@ -1,5 +1,5 @@
 -- What a frame is, and its one spelling.
-use Rattle.std.specs.Prelude.{◌≡◌, ℕ, ◌+◌, ◌^◌, ◌<◌, ◌≤◌, ⊤, List, [], ◌∷◌, ◌++◌, length, replicate, if◌then◌else◌}
+use Rattle.std.specs.Prelude.{◌≡◌, ℕ, ◌^◌, ◌<◌, ◌≤◌, ⊤, List, [], ◌∷◌, ◌++◌, length, replicate, if◌then◌else◌}
 use Rattle.std.specs.List.{flat_map}
 use Rattle.xv_base.specs.declared.operation.UnitHead.{UnitHead}
 use Rattle.xv_base.specs.Units.{Shape, units, size}

@@ -2,7 +2,6 @@
 use Rattle.std.specs.Prelude.{◌≡◌, ℕ, List, ◌++◌, length, take, Some, Ok}
 use Rattle.xv_base.specs.Units.{Shape}
 use Rattle.xv_frame.specs.declared.heads.Head.{Head}
-use Rattle.xv_frame.specs.declared.groups.GroupFault.{GroupFault}
 use Rattle.xv_frame.specs.Frame.{Each, Message, Frame, GroupFrame, IsFrame, IsGroup, spelled, all_spelled}
 use Rattle.xv_frame.specs.Heads.{IsHead, head_spelled}
 use Rattle.xv_frame.specs.Faults.{read_head, read_group}

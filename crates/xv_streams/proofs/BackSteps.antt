@@ -1,26 +1,23 @@
 -- The wire back after an acknowledgement was put, and after one was taken off.
-use Rattle.std.proofs.Common.{◌≡◌, ℕ, zero, suc, ◌+◌, ◌-◌, ◌*◌, ◌^◌, ◌<◌, ◌≤◌, List, [], ◌∷◌, ◌++◌, length, take, drop, map, sym, ap, ◌∙◌, arith, rules, refl, subst, Bool, true, false, Option, Some, None, Result, Ok, Err, length-append}
+use Rattle.std.proofs.Common.{◌≡◌, ℕ, ◌+◌, ◌-◌, ◌*◌, ◌<◌, ◌≤◌, List, [], ◌∷◌, ◌++◌, length, drop, map, sym, ap, ◌∙◌, arith, refl, subst, Bool, true, false, Option, Some, None, Result, Ok, Err, length-append}
 use lib.Count.{ones}
-use Rattle.std.specs.Prelude.{is_err, max, if◌then◌else◌}
-use Rattle.std.proofs.lemmas.Bool.{false≢true}
+use Rattle.std.specs.Prelude.{if◌then◌else◌}
 use Rattle.std.proofs.lemmas.List.{append-nil, map-append, length-map}
 use Rattle.xv_base.specs.declared.unit.Failed.{Failed}
-use Rattle.xv_base.specs.Units.{Shape, shape_of}
 use Rattle.xv_base.specs.Layout.{IsGood}
 use Rattle.xv_frame.specs.Fields.{word_at}
-use Rattle.xv_frame.specs.Frame.{Frame, UnitFrame, AckFrame, GroupFrame, Each, IsFrame, spelled, all_spelled, ack}
+use Rattle.xv_frame.specs.Frame.{Frame, UnitFrame, AckFrame, GroupFrame, Each, all_spelled, ack}
 use Rattle.xv_frame.specs.Reading.{frames_in}
 use Rattle.xv_frame.proofs.ReadHeads.{length-ack, count-back}
 use Rattle.xv_frame.proofs.Accepted.{length-spelled}
 use Rattle.xv_wire.specs.Wire.{PutBytes}
 use Rattle.xv_wire.specs.Told.{Told, CallMade}
-use Rattle.xv_streams.specs.Gathered.{Gathered}
 use Rattle.xv_streams.specs.Taking.{TakesMade}
-use Rattle.xv_streams.specs.Lanes.{front_size, wanted, IsLane, FrameTaken}
-use Rattle.xv_streams.specs.Streamed.{format_of, frame_room, IsLaneOf}
-use Rattle.xv_streams.specs.Returned.{Returned, returned, any_shape, count_of, back_lane, IsBack, AckPut, AckTaken, first_count, ack_left}
+use Rattle.xv_streams.specs.Lanes.{front_size, wanted, FrameTaken}
+use Rattle.xv_streams.specs.Streamed.{format_of, frame_room}
+use Rattle.xv_streams.specs.Returned.{returned, any_shape, count_of, back_lane, IsBack, AckPut, AckTaken, first_count, ack_left}
 use Rattle.xv_streams.proofs.FrameTakes.{Fills, fills-move, head-failed, head-none}
-use Rattle.xv_streams.proofs.LaneSteps.{frames-more, lane-kept, WholeFrame, whole-frame, no-frame, Whole}
+use Rattle.xv_streams.proofs.LaneSteps.{frames-more, lane-kept, whole-frame, Whole}
 use Rattle.xv_streams.proofs.PutSteps.{IsPut, put-lane, few-frames}
 
 pub good-any : IsGood any_shape

@@ -10,7 +10,6 @@ use Rattle.xv_frame.specs.Reading.{frames_in}
 use Rattle.xv_frame.specs.Size.{frame_size}
 use Rattle.xv_frame.proofs.Accepted.{length-spelled}
 use Rattle.xv_frame.proofs.Faultless.{size-at-front}
-use Rattle.xv_wire.specs.Wire.{TakeBytes}
 use Rattle.xv_wire.specs.Told.{Told}
 use Rattle.xv_streams.specs.Taking.{TakesMade, Taking}
 use Rattle.xv_streams.specs.Lanes.{front_size, wanted, IsLane, FrameTaken}

@@ -1,11 +1,11 @@
 -- Lanes over wires in which nothing is in transit.
-use Rattle.std.proofs.Common.{◌≡◌, ℕ, zero, suc, ◌+◌, ◌<◌, ◌≤◌, List, [], ◌∷◌, ◌++◌, length, get_or, map, replicate, sym, ap, ◌∙◌, arith, refl, subst}
+use Rattle.std.proofs.Common.{◌≡◌, ℕ, suc, List, [], ◌∷◌, ◌++◌, length, map, replicate, sym, ap, arith, refl, subst}
 use Rattle.std.specs.Prelude.{All}
 use Rattle.xv_base.specs.Units.{Shape}
 use Rattle.xv_frame.specs.Reading.{frames_in}
 use Rattle.xv_wire.specs.Told.{Told}
 use Rattle.xv_streams.specs.Gathered.{Gathered}
-use Rattle.xv_streams.specs.Streamed.{LaneSeen, seen_lane, seen_lanes, IsLaneOf, AreLanesOf, fresh_lane, frame_room, messages_of}
+use Rattle.xv_streams.specs.Streamed.{LaneSeen, seen_lanes, IsLaneOf, AreLanesOf, fresh_lane, frame_room, messages_of}
 
 abbrev pub fresh : ℕ → Gathered
 fresh r = record { bytes = []; room = r; waiting = 0 }

@@ -1,16 +1,16 @@
 -- A lane after a frame was put, gathered in part, and taken off.
-use Rattle.std.proofs.Common.{◌≡◌, ℕ, zero, suc, ◌+◌, ◌-◌, ◌*◌, ◌<◌, ◌≤◌, List, [], ◌∷◌, ◌++◌, length, take, drop, map, sym, ap, ◌∙◌, arith, refl, subst, append_assoc, length-append, Bool, true, false}
-use Rattle.std.proofs.lemmas.List.{take_at, drop_at, append-nil, map-append}
+use Rattle.std.proofs.Common.{◌≡◌, ℕ, suc, ◌+◌, ◌-◌, ◌*◌, ◌<◌, ◌≤◌, List, [], ◌∷◌, ◌++◌, length, take, drop, sym, ap, ◌∙◌, arith, refl, subst, append_assoc, length-append, Bool, false}
+use Rattle.std.proofs.lemmas.List.{take_at, drop_at, append-nil}
 use Rattle.std.proofs.lemmas.List.{length_push}
 use Rattle.xv_base.specs.Units.{Shape}
 use Rattle.xv_base.specs.Layout.{IsGood}
-use Rattle.xv_frame.specs.Frame.{Message, Frame, Each, IsFrame, spelled, all_spelled}
+use Rattle.xv_frame.specs.Frame.{Frame, Each, IsFrame, spelled, all_spelled}
 use Rattle.xv_frame.specs.Reading.{frames_in}
 use Rattle.xv_frame.proofs.Accepted.{list-back, length-spelled}
 use Rattle.xv_wire.specs.Told.{Told}
 use Rattle.xv_streams.specs.Gathered.{Gathered}
-use Rattle.xv_streams.specs.Lanes.{front_size, IsLane, FrameTaken}
-use Rattle.xv_streams.specs.Streamed.{messages_of, format_of, frame_room, IsLaneOf, seen_lane}
+use Rattle.xv_streams.specs.Lanes.{front_size, FrameTaken}
+use Rattle.xv_streams.specs.Streamed.{format_of, frame_room, IsLaneOf}
 
 each-push : {A : Type 0} (P : A → Type 0) (xs : List A) (x : A) → Each P xs → P x → Each P (xs ++ x ∷ [])
 each-push P [] x h p = (p, tt)

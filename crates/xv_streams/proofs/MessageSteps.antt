@@ -1,12 +1,11 @@
 -- A message taken off a lane of unit frames.
-use Rattle.std.proofs.Common.{◌≡◌, ℕ, zero, suc, ◌+◌, ◌-◌, ◌<◌, ◌≤◌, List, [], ◌∷◌, ◌++◌, length, take, drop, map, sym, ap, ◌∙◌, arith, refl, subst, Bool, true, false, Option, Some, None, Result, Ok, Err, length-append}
+use Rattle.std.proofs.Common.{◌≡◌, ℕ, ◌+◌, ◌-◌, ◌<◌, ◌≤◌, List, [], ◌∷◌, ◌++◌, length, take, drop, map, sym, ap, ◌∙◌, arith, refl, subst, Bool, true, false, Some, None, Ok, Err, length-append}
 use Rattle.std.proofs.lemmas.List.{append-nil, take_at, drop_at}
-use Rattle.std.specs.Prelude.{is_err}
 use Rattle.xv_base.specs.declared.unit.Failed.{Failed}
 use Rattle.xv_base.specs.declared.operation.UnitHead.{UnitHead}
 use Rattle.xv_base.specs.Units.{Shape, units, size, max_size}
 use Rattle.xv_base.specs.Layout.{IsGood}
-use Rattle.xv_frame.specs.Frame.{Message, message, Frame, UnitFrame, AckFrame, GroupFrame, Each, IsFrame, IsMessage, spelled, all_spelled, unit_head}
+use Rattle.xv_frame.specs.Frame.{Message, Frame, UnitFrame, AckFrame, GroupFrame, IsMessage, spelled, unit_head}
 use Rattle.xv_frame.specs.Reading.{frames_in, front_message, front_head}
 use Rattle.xv_base.proofs.Partition.{has_greatest_size}
 use Rattle.xv_frame.specs.declared.heads.Head.TheVariants.{Unit as UnitHeadOf}
@@ -17,9 +16,9 @@ use Rattle.xv_frame.proofs.ReadHeads.{length-unit-head}
 use Rattle.xv_wire.specs.Told.{Told}
 use Rattle.xv_streams.specs.Gathered.{Gathered}
 use Rattle.xv_streams.specs.Taking.{TakesMade}
-use Rattle.xv_streams.specs.Lanes.{front_size, wanted, FrameTaken}
-use Rattle.xv_streams.specs.Streamed.{LaneSeen, messages_of, format_of, IsLaneOf, seen_lane, MessageTaken, first_group, head_of_first, content_of_first}
-use Rattle.xv_streams.proofs.LaneSteps.{lane-kept, Whole, WholeFrame, whole-frame, no-frame}
+use Rattle.xv_streams.specs.Lanes.{wanted, FrameTaken}
+use Rattle.xv_streams.specs.Streamed.{messages_of, IsLaneOf, seen_lane, MessageTaken, first_group, head_of_first, content_of_first}
+use Rattle.xv_streams.proofs.LaneSteps.{Whole, whole-frame, no-frame}
 
 -- the takes by what is left in transit
 made-seen : (s : Shape) (old new : List ℕ) (failed : Bool) (t u : Told) (f g : ℕ) → FrameTaken s old new failed t u f g

@@ -1,19 +1,19 @@
 -- A put on one of some lanes.
-use Rattle.std.proofs.Common.{◌≡◌, ℕ, zero, suc, ◌+◌, ◌-◌, ◌*◌, ◌^◌, ◌<◌, ◌≤◌, List, [], ◌∷◌, ◌++◌, length, get_or, set, take, drop, map, sym, ap, ◌∙◌, arith, refl, subst, Bool, true, false, eqb, length-append}
+use Rattle.std.proofs.Common.{◌≡◌, ℕ, ◌+◌, ◌*◌, ◌<◌, ◌≤◌, List, [], ◌∷◌, ◌++◌, length, get_or, set, take, drop, map, sym, ap, ◌∙◌, arith, refl, subst, Bool, true, false, eqb, length-append}
 use Rattle.std.specs.Prelude.{if◌then◌else◌}
-use Rattle.std.proofs.lemmas.List.{take_at, map-append, get_or-set_same, length-set}
+use Rattle.std.proofs.lemmas.List.{take_at, map-append, get_or-set_same}
 use Rattle.xv_base.specs.Units.{Shape, units, size, max_size}
 use Rattle.xv_base.specs.Layout.{IsGood}
 use Rattle.xv_base.specs.declared.operation.UnitHead.{UnitHead}
 use Rattle.xv_base.proofs.Partition.{has_greatest_size, partitions_bytes}
 use Rattle.xv_frame.proofs.ReadHeads.{length-unit-head}
-use Rattle.xv_frame.specs.Frame.{Message, message, Frame, UnitFrame, Each, IsFrame, spelled, all_spelled, unit_head}
+use Rattle.xv_frame.specs.Frame.{message, Frame, UnitFrame, Each, IsFrame, spelled, all_spelled, unit_head}
 use Rattle.xv_frame.specs.Reading.{frames_in}
 use Rattle.xv_wire.specs.Wire.{PutBytes}
 use Rattle.xv_wire.specs.Told.{Told, CallMade}
 use Rattle.xv_streams.specs.Gathered.{Gathered}
 use Rattle.xv_streams.specs.Lanes.{front_size}
-use Rattle.xv_streams.specs.Streamed.{LaneSeen, Streamed, messages_of, format_of, frame_room, IsLaneOf, AreLanesOf, seen_lane, seen_lanes, no_lane, FramePut}
+use Rattle.xv_streams.specs.Streamed.{messages_of, format_of, frame_room, IsLaneOf, AreLanesOf, seen_lane, seen_lanes, no_lane, FramePut}
 use Rattle.xv_streams.proofs.Zips.{as-many, seen-at, lane-at, lanes-set, seen-set, length-seen}
 use Rattle.xv_streams.proofs.LaneSteps.{frames-more, lane-more, many-bytes}
 

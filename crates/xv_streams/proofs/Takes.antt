@@ -1,11 +1,11 @@
 -- Takes one after another are one take of all their bytes.
-use Rattle.std.proofs.Common.{◌≡◌, ℕ, ◌+◌, ◌-◌, ◌^◌, ◌<◌, ◌≤◌, List, [], ◌∷◌, ◌++◌, length, drop, sym, ap, ◌∙◌, arith, refl, subst, Bool, true, false, not, ◌&&◌, eqb, ltb, Option, Some, None, inl, inr, ◌⊎◌}
-use Rattle.std.specs.Prelude.{if◌then◌else◌, nat_lt, ◌==◌, min, IfSome, option_map}
-use Rattle.std.proofs.lemmas.Bool.{lt-ltb, le-ltb, cases_lt, cases_eq, false≢true}
+use Rattle.std.proofs.Common.{◌≡◌, ℕ, ◌+◌, ◌-◌, ◌<◌, ◌≤◌, List, [], ◌∷◌, length, drop, sym, ap, ◌∙◌, arith, refl, subst, Bool, true, false, not, ◌&&◌, eqb, Option, Some, None, inl, inr, ◌⊎◌}
+use Rattle.std.specs.Prelude.{if◌then◌else◌, nat_lt, IfSome, option_map}
+use Rattle.std.proofs.lemmas.Bool.{lt-ltb, le-ltb, cases_lt, false≢true}
 use Rattle.std.proofs.lemmas.Bool.Decides.{eqb_tells}
 use Rattle.std.proofs.lemmas.List.{drop-drop}
-use Rattle.xv_wire.specs.Wire.{WireCall, TakeBytes, Counted, left_past, left_after, is_inside, met_past, counted_after, is_planned}
-use Rattle.xv_wire.specs.Told.{Told, told_after, CallMade, Caused}
+use Rattle.xv_wire.specs.Wire.{TakeBytes, Counted, left_past, left_after, is_inside, met_past, counted_after, is_planned}
+use Rattle.xv_wire.specs.Told.{Told, told_after, CallMade}
 use Rattle.xv_wire.proofs.Passing.{left-add, inside-add, left-within, inside-within}
 use Rattle.xv_streams.specs.Taking.{first_left, AreOfOnePiece, TakesMade, Taking}
 

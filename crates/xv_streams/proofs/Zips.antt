@@ -1,11 +1,11 @@
 -- Wires beside lanes: what is seen at a place, and after a change there.
-use Rattle.std.proofs.Common.{◌≡◌, ℕ, zero, suc, ◌+◌, ◌<◌, ◌≤◌, List, [], ◌∷◌, ◌++◌, length, get_or, set, sym, ap, ◌∙◌, arith, refl}
+use Rattle.std.proofs.Common.{◌≡◌, ℕ, zero, suc, ◌<◌, List, [], ◌∷◌, ◌++◌, length, get_or, set, sym, ap, ◌∙◌, arith, refl}
 use Rattle.xv_base.specs.Units.{Shape}
 use Rattle.xv_wire.specs.Told.{Told}
 use Rattle.xv_streams.specs.Gathered.{Gathered}
 use Rattle.std.proofs.lemmas.List.{length-map}
 use Rattle.xv_frame.specs.Reading.{frames_in}
-use Rattle.xv_streams.specs.Streamed.{messages_of, LaneSeen, seen_lane, seen_lanes, IsLaneOf, AreLanesOf, no_lane}
+use Rattle.xv_streams.specs.Streamed.{messages_of, seen_lane, seen_lanes, IsLaneOf, AreLanesOf, no_lane}
 
 module _ {A : Type 0} (t : A → Told) (f : A → ℕ) (s : Shape) (format : ℕ) where
   pub as-many : (ws : List A) (ls : List Gathered) → AreLanesOf t s format ws ls → length ws ≡ length ls

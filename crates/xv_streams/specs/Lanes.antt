@@ -1,5 +1,5 @@
 -- The frames of a lane: gathered bytes of the first, then what is in transit.
-use Rattle.std.specs.Prelude.{◌≡◌, ℕ, ◌+◌, ◌-◌, ◌≤◌, Bool, false, List, [], ◌∷◌, ◌++◌, length}
+use Rattle.std.specs.Prelude.{◌≡◌, ℕ, ◌-◌, ◌≤◌, Bool, false, List, [], ◌∷◌, ◌++◌, length}
 use Rattle.xv_base.specs.Units.{Shape}
 use Rattle.xv_frame.specs.Frame.{Frame, Each, IsFrame, spelled, all_spelled}
 use Rattle.xv_frame.specs.Reading.{frames_in}

@@ -1,6 +1,6 @@
 -- Some takes of a wire, one after another, seen as one.
-use Rattle.std.specs.Prelude.{◌≡◌, ℕ, ◌+◌, ◌-◌, ◌<◌, ◌≤◌, Bool, ◌&&◌, false, nat_lt, List, [], ◌∷◌, length, IfSome}
-use Rattle.xv_wire.specs.Wire.{WireCall, TakeBytes, Counted, is_planned}
+use Rattle.std.specs.Prelude.{◌≡◌, ℕ, ◌<◌, ◌≤◌, Bool, ◌&&◌, false, nat_lt, List, [], ◌∷◌, length, IfSome}
+use Rattle.xv_wire.specs.Wire.{TakeBytes, Counted, is_planned}
 use Rattle.xv_wire.specs.Told.{Told, told_after, Caused}
 
 -- how many bytes of the first piece are in transit

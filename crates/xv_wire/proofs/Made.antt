@@ -2,7 +2,7 @@
 use Rattle.std.proofs.Common.{◌≡◌, ℕ, ◌+◌, ◌-◌, ◌^◌, ◌≤◌, refl, sym, subst, arith, Bool, true, false}
 use Rattle.std.specs.Prelude.{if◌then◌else◌, min}
 use Rattle.xv_wire.specs.Wire.{WireCall, is_planned, next_count}
-use Rattle.xv_wire.specs.Told.{CallMade, Caused}
+use Rattle.xv_wire.specs.Told.{CallMade}
 use Rattle.xv_wire.specs.Memory.{Pipe, after, told}
 
 faults-rise : (failed : Bool) (n : ℕ) → min (n + (if failed then 1 else 0)) (2 ^ 64 - 1) ≤ (if failed then next_count n else n)

@@ -1,9 +1,8 @@
 -- What is left of pieces as bytes are taken: it composes, and takes as many bytes from their total.
-use Rattle.std.proofs.Common.{◌≡◌, ℕ, zero, suc, ◌+◌, ◌-◌, ◌*◌, ◌/◌, ◌<◌, ◌≤◌, List, [], ◌∷◌, ◌++◌, length, sym, ap, ◌∙◌, arith, refl, Bool, true, false, ◌||◌, eqb, ltb, inl, inr}
-use Rattle.std.specs.Prelude.{if◌then◌else◌, nat_lt, ◌==◌}
-use Rattle.std.proofs.lemmas.Bool.{lt-ltb, le-ltb, cases_lt, cases_eq}
-use Rattle.std.proofs.lemmas.Bool.Decides.{nat_tests, eqb_tells}
-use Rattle.xv_wire.specs.Wire.{left_past, is_inside, met_past}
+use Rattle.std.proofs.Common.{◌≡◌, ℕ, ◌+◌, ◌-◌, ◌*◌, ◌/◌, ◌<◌, ◌≤◌, List, [], ◌∷◌, ◌++◌, length, sym, ap, ◌∙◌, arith, refl, false, inl, inr}
+use Rattle.std.specs.Prelude.{if◌then◌else◌, nat_lt}
+use Rattle.std.proofs.lemmas.Bool.{lt-ltb, le-ltb, cases_lt}
+use Rattle.xv_wire.specs.Wire.{left_past, is_inside}
 use Rattle.xv_wire.specs.Lengths.{total, AreWide, IsPart}
 
 pub left-within : (n p : ℕ) (ps : List ℕ) → n < p → left_past n (p ∷ ps) ≡ (p - n) ∷ ps

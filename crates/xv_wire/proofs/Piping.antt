@@ -1,8 +1,7 @@
 -- The bytes of a wire in memory after a put and after a take.
-use Rattle.std.proofs.Common.{◌≡◌, ℕ, ◌+◌, ◌-◌, ◌^◌, ◌<◌, ◌≤◌, List, [], ◌∷◌, ◌++◌, length, take, drop, sym, ap, ◌∙◌, arith, refl, Bool, false, length-append, length-drop}
+use Rattle.std.proofs.Common.{◌≡◌, ℕ, ◌+◌, ◌-◌, ◌^◌, ◌<◌, ◌≤◌, List, [], ◌∷◌, ◌++◌, length, take, drop, sym, ap, ◌∙◌, arith, length-append, length-drop}
 use Rattle.std.specs.Prelude.{min}
-use Rattle.std.proofs.lemmas.List.{take_all, take-append-drop, drop-append-le, length-take, length_push, append_cancel_left}
-use Rattle.std.proofs.Math.Seq.{take-add}
+use Rattle.std.proofs.lemmas.List.{take_all, take-append-drop, drop-append-le, length-take, length_push}
 use Rattle.circular_buffer.specs.Buffer.{Buffer, buffer}
 use Rattle.xv_wire.specs.Wire.{left_past, is_inside}
 use Rattle.xv_wire.specs.Lengths.{InTransit, total}

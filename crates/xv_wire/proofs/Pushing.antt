@@ -1,10 +1,10 @@
 -- A piece more, for which the ring of lengths has room.
-use Rattle.std.proofs.Common.{◌≡◌, ℕ, ◌+◌, ◌-◌, ◌/◌, ◌<◌, ◌≤◌, List, [], ◌∷◌, ◌++◌, length, drop, sym, ap, ◌∙◌, arith, refl, subst, Option, Some, None, Bool, ◌||◌, true, false}
+use Rattle.std.proofs.Common.{◌≡◌, ℕ, ◌+◌, ◌-◌, ◌/◌, ◌<◌, ◌≤◌, List, [], ◌∷◌, ◌++◌, length, drop, sym, ap, ◌∙◌, arith, subst, None, Bool, false}
 use Rattle.std.specs.Prelude.{slice_get, nat_lt}
 use Rattle.std.proofs.lemmas.List.{length_push}
 use Rattle.circular_buffer.specs.Buffer.{Buffer, buffer, keep_last}
 use Rattle.xv_wire.specs.Wire.{left_past, is_inside}
-use Rattle.xv_wire.specs.Lengths.{InTransit, in_transit, total, AreWide, IsPart}
+use Rattle.xv_wire.specs.Lengths.{in_transit, total, AreWide, IsPart}
 use Rattle.xv_wire.proofs.Passing.{part-left, wide-push, part-push, total-push, room-for-one, left-push, left-add, inside-add, part-inside}
 
 pub none-left : (xs : List ℕ) (n : ℕ) → None ≡ slice_get xs 0 → n ≤ total xs → n ≡ 0

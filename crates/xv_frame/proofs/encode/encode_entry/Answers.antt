@@ -1,5 +1,4 @@
-use Rattle.std.proofs.Common.{◌≡◌, ℕ, ◌+◌, ◌++◌, List, length, drop, sym, ◌∙◌, ap, arith, refl, false, length-append}
-use Rattle.xv_frame.specs.Fields.{all_zero}
+use Rattle.std.proofs.Common.{◌≡◌, ℕ, ◌++◌, List, length, drop, sym, ◌∙◌, ap, arith, refl, length-append}
 use Rattle.xv_frame.specs.Frame.{entry, message, entry_head}
 use Rattle.xv_frame.proofs.ReadHeads.{length-entry-head}
 use Rattle.xv_frame.proofs.Entries.{entry-whole}

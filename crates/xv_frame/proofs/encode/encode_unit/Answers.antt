@@ -1,4 +1,4 @@
-use Rattle.std.proofs.Common.{◌≡◌, ℕ, ◌++◌, List, [], ◌∷◌, length, drop, sym, ◌∙◌, ap, arith, refl}
+use Rattle.std.proofs.Common.{◌≡◌, ◌++◌, length, drop, sym, ◌∙◌, refl}
 use Rattle.xv_frame.specs.Frame.{unit_head}
 use Rattle.xv_frame.proofs.ReadHeads.{length-unit-head}
 use Rattle.xv_frame.proofs.Putting.{Begins, begins-more}

@@ -1,7 +1,7 @@
-use Rattle.std.proofs.Common.{◌≡◌, ℕ, ◌++◌, List, [], ◌∷◌, length, drop, sym, ◌∙◌, ap, refl, length-append}
+use Rattle.std.proofs.Common.{◌≡◌, ℕ, ◌++◌, List, [], ◌∷◌, drop, sym, ◌∙◌, ap, refl, length-append}
 use Rattle.xv_frame.specs.Fields.{word_bytes, long_bytes}
 use Rattle.xv_frame.proofs.Numbers.{word-is, long-is, length-word, length-long}
-use Rattle.xv_frame.proofs.Putting.{Begins, begins, begins-more, three-fields}
+use Rattle.xv_frame.proofs.Putting.{Begins, begins-more, three-fields}
 use Rattle.xv_frame.proofs.encode.put_entry_head.Goals as goal
 
 pub returns-clause-written : goal.returns-clause-written

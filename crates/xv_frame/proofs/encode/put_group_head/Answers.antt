@@ -1,8 +1,8 @@
-use Rattle.std.proofs.Common.{◌≡◌, ℕ, ◌++◌, List, [], ◌∷◌, length, drop, sym, ◌∙◌, ap, arith, refl, length-append, replicate}
+use Rattle.std.proofs.Common.{◌≡◌, ℕ, ◌++◌, List, [], ◌∷◌, drop, sym, ◌∙◌, ap, arith, refl, length-append, replicate}
 use Rattle.std.proofs.lemmas.List.{drop_all, append-nil}
 use Rattle.xv_frame.specs.Fields.{short_bytes, word_bytes}
 use Rattle.xv_frame.proofs.Numbers.{short-is, word-is, length-short, length-word}
-use Rattle.xv_frame.proofs.Putting.{Begins, begins, begins-more, three-more}
+use Rattle.xv_frame.proofs.Putting.{begins, begins-more, three-more}
 use Rattle.xv_frame.proofs.encode.put_group_head.Goals as goal
 
 pub returns : goal.returns

@@ -1,9 +1,4 @@
-use Rattle.std.proofs.Common.{◌≡◌, ℕ, List, length, sym, subst, rules, Result, Ok, Err}
-use Rattle.std.specs.Prelude.{IfOk}
-use Rattle.xv_frame.specs.declared.groups.GroupFault.{GroupFault}
-use Rattle.xv_frame.specs.Faults.{read_group, group_fault}
-use Rattle.xv_frame.specs.Reading.{front_group}
-use Rattle.xv_frame.specs.Frame.{IsGroup, GroupFrame, spelled}
+use Rattle.std.proofs.Common.{rules}
 use Rattle.xv_frame.proofs.EntriesSound.{group-checked, group-stands}
 use Rattle.xv_frame.proofs.groups.check_group.Goals as goal
 

@@ -1,9 +1,8 @@
-use Rattle.std.proofs.Common.{◌≡◌, ℕ, ◌+◌, ◌-◌, ◌<◌, ◌≤◌, List, length, take, drop, sym, ap, ◌∙◌, arith, subst, length-drop, false}
+use Rattle.std.proofs.Common.{◌≡◌, ℕ, ◌+◌, ◌-◌, ◌≤◌, length, drop, ap, ◌∙◌, arith, subst, length-drop}
 use Rattle.std.proofs.lemmas.List.{length-take}
-use Rattle.xv_wire.specs.Wire.{TakeBytes}
-use Rattle.xv_wire.specs.Told.{Told, CallMade}
-use Rattle.xv_streams.specs.Taking.{Taking, TakesMade}
-use Rattle.xv_streams.proofs.Takes.{taking-start, taking-more, taking-ends, taking-enough}
+use Rattle.xv_wire.specs.Told.{Told}
+use Rattle.xv_streams.specs.Taking.{Taking}
+use Rattle.xv_streams.proofs.Takes.{taking-more}
 use Rattle.xv_streams.proofs.FillsMore.{gathers-more}
 use Rattle.xv_streams.proofs.filling.fill.Goals as goal
 

@@ -1,9 +1,9 @@
-use Rattle.std.proofs.Common.{◌≡◌, ℕ, ◌≤◌, List, length, take, arith, Bool, false, true, subst, sym, ap, ◌∙◌}
-use Rattle.std.specs.Prelude.{max, is_some, Some}
+use Rattle.std.proofs.Common.{◌≡◌, ℕ, List, length, take, arith, Bool, false, true, subst, sym, ap, ◌∙◌}
+use Rattle.std.specs.Prelude.{is_some, Some}
 use Rattle.std.proofs.lemmas.List.{take-take}
 use Rattle.xv_frame.specs.Size.{frame_size}
 use Rattle.xv_streams.specs.Lanes.{FrameTaken}
-use Rattle.xv_streams.proofs.FrameTakes.{Fills, fills-from, head-failed, head-none, head-known, size-known, rest-taken, HeadKnown}
+use Rattle.xv_streams.proofs.FrameTakes.{Fills, fills-from, head-failed, head-none, head-known, size-known, rest-taken}
 use Rattle.xv_streams.proofs.framing.fill_frame.Goals as goal
 
 pub returns-then-head-clause-taken : goal.returns-then-head-clause-taken

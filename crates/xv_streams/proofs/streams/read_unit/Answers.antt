@@ -1,5 +1,5 @@
-use Rattle.std.proofs.Common.{◌≡◌, ℕ, ◌+◌, ◌-◌, ◌≤◌, List, ◌++◌, length, take, drop, sym, ap, ◌∙◌, arith, length-drop}
-use Rattle.std.proofs.lemmas.List.{take_at, take_rest, length-take}
+use Rattle.std.proofs.Common.{◌≡◌, ◌-◌, length, drop, ap, ◌∙◌, length-drop}
+use Rattle.std.proofs.lemmas.List.{take_at, take_rest}
 use Rattle.xv_streams.proofs.streams.read_unit.Goals as goal
 
 pub returns-clause-content : goal.returns-clause-content

@@ -1,11 +1,11 @@
-use Rattle.std.proofs.Common.{◌≡◌, ℕ, ◌+◌, ◌-◌, ◌<◌, ◌≤◌, List, [], length, take, drop, sym, ap, ◌∙◌, subst, arith, refl, false, Ok, Some}
+use Rattle.std.proofs.Common.{◌≡◌, ℕ, ◌+◌, ◌-◌, ◌<◌, ◌≤◌, List, [], length, take, drop, sym, ap, ◌∙◌, subst, false, Ok, Some}
 use Rattle.std.proofs.lemmas.Bool.{ltb-true}
 use Rattle.xv_frame.specs.declared.heads.Head.TheVariants.{Unit as UnitHeadOf}
 use Rattle.xv_frame.specs.Faults.{read_head}
-use Rattle.xv_frame.specs.Reading.{frames_in, front_head}
+use Rattle.xv_frame.specs.Reading.{front_head}
 use Rattle.xv_streams.specs.Gathered.{Gathered}
 use Rattle.xv_streams.specs.Lanes.{FrameTaken}
-use Rattle.xv_streams.specs.Streamed.{LaneSeen, IsLaneOf, seen_lane, MessageTaken, first_group, content_of_first, messages_of}
+use Rattle.xv_streams.specs.Streamed.{IsLaneOf, seen_lane, MessageTaken, first_group, content_of_first}
 use Rattle.xv_streams.proofs.MessageSteps.{receive-some, first-message, FirstMessage, Readable, readable, taken-off, content-moved}
 use Rattle.xv_streams.proofs.streams.receive_message.Goals as goal
 

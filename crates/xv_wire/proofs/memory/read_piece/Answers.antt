@@ -1,4 +1,4 @@
-use Rattle.std.proofs.Common.{◌≡◌, ℕ, ◌≤◌, List, ◌++◌, length, take, drop, arith, ◌∙◌, ap, append_assoc}
+use Rattle.std.proofs.Common.{ℕ, List, ◌++◌, take, drop, arith, ◌∙◌, ap, append_assoc}
 use Rattle.std.proofs.lemmas.List.{length-take}
 use Rattle.xv_wire.proofs.Piping.{behind}
 use Rattle.xv_wire.proofs.memory.read_piece.Goals as goal

@@ -1,4 +1,4 @@
-use Rattle.std.proofs.Common.{◌≡◌, arith, rules}
+use Rattle.std.proofs.Common.{rules}
 use Rattle.xv_wire.proofs.Pushing.{none-left}
 use Rattle.xv_wire.proofs.pieces.drop_taken.Goals as goal
 

@@ -1,10 +1,9 @@
-use Rattle.std.proofs.Common.{◌≡◌, ℕ, ◌+◌, ◌≤◌, List, length, take, sym, ap, ◌∙◌, subst, arith, refl, Bool, true, false}
-use Rattle.std.specs.Prelude.{is_err}
+use Rattle.std.proofs.Common.{ℕ, ◌+◌, ◌≤◌, List, length, take, sym, subst, arith, false}
 use Rattle.std.proofs.lemmas.List.{length-take}
 use Rattle.xv_frame.specs.Frame.{ack}
 use Rattle.xv_wire.specs.Wire.{PutBytes}
-use Rattle.xv_wire.specs.Told.{Told, MayCall, CallMade}
-use Rattle.xv_streams.specs.Returned.{Returned, returned, IsBack, AckPut}
+use Rattle.xv_wire.specs.Told.{CallMade}
+use Rattle.xv_streams.specs.Returned.{Returned, returned, AckPut}
 use Rattle.xv_streams.proofs.BackSteps.{ack-put, IsAckPut, few-acks}
 use Rattle.xv_streams.proofs.back.BackWire.put_ack.Goals as goal
 

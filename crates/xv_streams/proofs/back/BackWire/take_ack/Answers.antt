@@ -1,10 +1,7 @@
-use Rattle.std.proofs.Common.{◌≡◌, ℕ, ◌+◌, ◌-◌, ◌<◌, ◌≤◌, List, [], length, take, sym, ap, ◌∙◌, subst, arith, refl, Bool, true, false, Result, Ok, Err, Some, None, Option}
-use Rattle.std.specs.Prelude.{is_err}
+use Rattle.std.proofs.Common.{◌≡◌, ℕ, ◌-◌, ◌<◌, List, [], take, sym, ap, ◌∙◌, subst, arith, Bool, true, false, Ok, Err, Some, None}
 use Rattle.std.proofs.lemmas.List.{take_all}
-use Rattle.xv_base.specs.declared.unit.Failed.{Failed}
 use Rattle.xv_frame.specs.Fields.{word_at}
-use Rattle.xv_wire.specs.Told.{Told}
-use Rattle.xv_streams.specs.Returned.{Returned, returned, IsBack, AckTaken}
+use Rattle.xv_streams.specs.Returned.{Returned, returned, AckTaken}
 use Rattle.xv_streams.proofs.FrameTakes.{Fills, fills-from}
 use Rattle.xv_streams.proofs.BackSteps.{IsAckTaken, ack-failed, ack-none, ack-some}
 use Rattle.xv_streams.proofs.back.BackWire.take_ack.Goals as goal

@@ -1,4 +1,4 @@
-use Rattle.std.proofs.Common.{◌≡◌, List, map, sym, ap, ◌∙◌, subst}
+use Rattle.std.proofs.Common.{map, ap, ◌∙◌}
 use Rattle.xv_streams.specs.Streamed.{Streamed, LaneSeen}
 use Rattle.xv_streams.proofs.FreshLanes.{wires-seen}
 use Rattle.xv_streams.proofs.streams.Streams.into_wires.Goals as goal

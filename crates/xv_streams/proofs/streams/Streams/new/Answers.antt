@@ -1,6 +1,6 @@
 use Rattle.std.proofs.Common.{◌≡◌, ℕ, List, length, replicate, sym, ap, ◌∙◌, subst, arith}
 use Rattle.xv_streams.specs.Gathered.{Gathered}
-use Rattle.xv_streams.specs.Streamed.{LaneSeen, AreLanesOf, seen_lanes, frame_room}
+use Rattle.xv_streams.specs.Streamed.{AreLanesOf, seen_lanes, frame_room}
 use Rattle.xv_streams.proofs.FreshLanes.{fresh, fresh-are, fresh-seen}
 use Rattle.xv_streams.proofs.streams.Streams.new.Goals as goal
 

@@ -1,6 +1,5 @@
-use Rattle.std.proofs.Common.{◌≡◌, ℕ, ◌+◌, ◌<◌, ◌≤◌, List, length, get_or, set, take, sym, ap, ◌∙◌, subst, arith, refl}
-use Rattle.xv_base.specs.Units.{Shape, max_size}
-use Rattle.xv_streams.specs.Gathered.{Gathered}
+use Rattle.std.proofs.Common.{◌≡◌, ℕ, ◌<◌, ◌≤◌, List, length, get_or, set, take, sym, ap, subst, arith}
+use Rattle.xv_base.specs.Units.{max_size}
 use Rattle.xv_streams.specs.Streamed.{Streamed, LaneSeen, IsLaneOf, lane, seen_lanes, seen_lane, no_lane, MessageTaken, first_group, content_of_first}
 use Rattle.xv_streams.proofs.PutSteps.{Here, here, Changed, changed}
 use Rattle.xv_streams.proofs.Zips.{length-seen, as-many}

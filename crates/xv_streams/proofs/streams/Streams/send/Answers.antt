@@ -1,14 +1,12 @@
-use Rattle.std.proofs.Common.{◌≡◌, ℕ, ◌+◌, ◌*◌, ◌^◌, ◌<◌, ◌≤◌, List, ◌++◌, length, get_or, set, take, drop, sym, ap, ◌∙◌, subst, arith, rules, refl, Bool}
+use Rattle.std.proofs.Common.{◌≡◌, ℕ, ◌+◌, ◌^◌, ◌<◌, ◌≤◌, List, length, get_or, set, take, drop, sym, ap, ◌∙◌, subst, arith, rules}
 use Rattle.std.specs.Prelude.{is_err, IfSome}
-use Rattle.std.proofs.lemmas.List.{take_at, with_items_is}
-use Rattle.std.specs.Vec.{with_items, with_item}
+use Rattle.std.proofs.lemmas.List.{take_at}
 use Rattle.xv_base.specs.Units.{units, size}
 use Rattle.xv_frame.specs.Frame.{Frame, UnitFrame, message, spelled, IsFrame}
 use Rattle.xv_wire.specs.Wire.{PutBytes}
-use Rattle.xv_wire.specs.Told.{Told, MayCall, CallMade}
-use Rattle.xv_streams.specs.Gathered.{Gathered}
+use Rattle.xv_wire.specs.Told.{MayCall, CallMade}
 use Rattle.xv_streams.specs.Streamed.{Streamed, LaneSeen, lane, seen_lanes, seen_lane, no_lane, FramePut}
-use Rattle.xv_streams.proofs.PutSteps.{Here, here, Changed, changed, IsPut, put-lane, few-frames, unit-room, framed, framed-fits, length-unit, short-lane}
+use Rattle.xv_streams.proofs.PutSteps.{Here, here, Changed, changed, IsPut, put-lane, few-frames, unit-room, framed, length-unit, short-lane}
 use Rattle.xv_streams.proofs.Zips.{length-seen, as-many}
 use Rattle.xv_streams.proofs.streams.Streams.send.Goals as goal
 

@@ -1,9 +1,7 @@
-use Rattle.std.proofs.Common.{◌≡◌, ℕ, ◌<◌, List, length, get_or, sym, ap, ◌∙◌, subst, arith}
-use Rattle.std.proofs.lemmas.List.{length-map}
-use Rattle.xv_frame.specs.Reading.{frames_in}
+use Rattle.std.proofs.Common.{◌≡◌, ◌<◌, length, sym, ap, ◌∙◌, subst, arith}
 use Rattle.xv_streams.specs.Gathered.{Gathered}
-use Rattle.xv_streams.specs.Streamed.{Streamed, LaneSeen, lane, messages_of, seen_lanes}
-use Rattle.xv_streams.proofs.Zips.{length-seen, as-many, counted-at}
+use Rattle.xv_streams.specs.Streamed.{Streamed, lane, seen_lanes}
+use Rattle.xv_streams.proofs.Zips.{length-seen, counted-at}
 use Rattle.xv_streams.proofs.streams.Streams.waiting.Goals as goal
 
 pub index-requires : goal.index-requires

@@ -1,4 +1,4 @@
-use Rattle.std.proofs.Common.{ℕ, ◌+◌, ◌^◌, ◌<◌, ◌≤◌, length, sym, subst}
+use Rattle.std.proofs.Common.{◌+◌, ◌^◌, ◌<◌, ◌≤◌, length, sym, subst}
 use Rattle.xv_wire.specs.Memory.{Pipe}
 use Rattle.xv_wire.proofs.Piping.{put-keeps}
 use Rattle.xv_wire.proofs.memory.MemWire.put.Goals as goal

@@ -1,7 +1,7 @@
-use Rattle.std.proofs.Common.{◌≡◌, ℕ, ◌+◌, ◌≤◌, ◌++◌, ◌∷◌, [], List, sym, ap, ◌∙◌, subst}
+use Rattle.std.proofs.Common.{◌+◌, ◌≤◌, ◌++◌, ◌∷◌, [], sym, ap, ◌∙◌, subst}
 use Rattle.xv_wire.specs.Wire.{left_past}
 use Rattle.xv_wire.specs.Lengths.{InTransit, total}
-use Rattle.xv_wire.proofs.Pushing.{IsPushed, pushed, push-seen}
+use Rattle.xv_wire.proofs.Pushing.{pushed, push-seen}
 use Rattle.xv_wire.proofs.pieces.Pieces.push.Goals as goal
 
 pub invariant_of-self : goal.invariant_of-self
