@@ -95,6 +95,15 @@ const CASES: &[Case] = &[
         output: b"refused line 5 bad-number\n",
     },
     Case {
+        name: "two faulty lines",
+        words: &["replay"],
+        input: b"job 1\npages 0 16\ndisk 0 16\n",
+        fails: &[],
+        room: 500,
+        status: 2,
+        output: b"refused line 2 limit 2\n",
+    },
+    Case {
         name: "a region above the outbox",
         words: &["replay"],
         input: b"job 1\npages 1 16\nstreams 1\ncredit 4\noutbox 4\nregion 5\n",
