@@ -2,4 +2,5 @@ pub mod Taking
 pub mod Lanes
 pub mod Gathered
 pub mod Streamed
+pub mod Carried
 pub mod Returned

@@ -1,8 +1,8 @@
 -- What is seen of the wire back.
-use Rattle.std.specs.Prelude.{◌≡◌, ℕ, ◌≤◌, List, [], ◌∷◌, ◌++◌, ◌-◌, length, map, drop, Bool, Option, Some, None, Result, IfOk, IfErr, IfSome, is_err, if◌then◌else◌}
+use Rattle.std.specs.Prelude.{◌≡◌, ℕ, ◌≤◌, List, [], ◌∷◌, ◌++◌, ◌+◌, ◌-◌, ◌*◌, length, map, drop, Bool, Option, Some, None, Result, IfOk, IfErr, IfSome, is_err, if◌then◌else◌}
 use Rattle.xv_base.specs.Units.{Shape, shape_of}
 use Rattle.xv_base.specs.declared.unit.Failed.{Failed}
-use Rattle.xv_frame.specs.Frame.{Frame, UnitFrame, AckFrame, GroupFrame, spelled}
+use Rattle.xv_frame.specs.Frame.{Frame, UnitFrame, AckFrame, GroupFrame, Each, spelled, all_spelled}
 use Rattle.xv_frame.specs.Reading.{frames_in}
 use Rattle.xv_wire.specs.Wire.{PutBytes}
 use Rattle.xv_wire.specs.Told.{Told, CallMade}
@@ -60,3 +60,9 @@ pub record AckTaken (result : Result (Option ℕ) Failed) (old new : Returned) :
   pub gathered : IfOk result (λ it. new.gathered ≡ [])
   pub kept : IfErr result (λ e. new.gathered ++ new.wire.transit ≡ old.gathered ++ old.wire.transit)
   pub made : TakesMade (length old.wire.transit - length new.wire.transit) (is_err result) (ack_left (length old.gathered)) old.wire new.wire old.faults new.faults
+
+-- the bytes gathered and those in transit are exactly the spellings of the acknowledgements, of 24 bytes each
+pub record AreCarried (r : Returned) : Type 0 where
+  pub stand : r.gathered ++ r.wire.transit ≡ all_spelled (map AckFrame r.counts)
+  pub counts : Each (λ n. (1 ≤ n) × (n ≤ 1024)) r.counts
+  pub bytes : length r.gathered + length r.wire.transit ≡ 24 * length r.counts

@@ -1,9 +1,9 @@
 -- What is seen of some streams.
-use Rattle.std.specs.Prelude.{◌≡◌, ℕ, ◌+◌, ◌*◌, ◌-◌, ◌<◌, ◌==◌, Bool, List, [], ◌∷◌, ◌++◌, length, map, set, drop, get_or, Option, Some, None, Result, IfOk, IfErr, IfSome, is_err, ⊤, if◌then◌else◌}
+use Rattle.std.specs.Prelude.{◌≡◌, ℕ, ◌+◌, ◌*◌, ◌-◌, ◌<◌, ◌≤◌, ◌==◌, Bool, List, [], ◌∷◌, ◌++◌, length, map, set, drop, get_or, Option, Some, None, Result, IfOk, IfErr, IfSome, is_err, ⊤, if◌then◌else◌}
 use Rattle.xv_base.specs.declared.operation.UnitHead.{UnitHead}
 use Rattle.xv_base.specs.declared.unit.Failed.{Failed}
 use Rattle.xv_base.specs.Units.{Shape, units, size, max_size}
-use Rattle.xv_frame.specs.Frame.{Message, Frame, UnitFrame, AckFrame, GroupFrame, Each, spelled}
+use Rattle.xv_frame.specs.Frame.{Message, message, IsMessage, Frame, UnitFrame, AckFrame, GroupFrame, Each, spelled}
 use Rattle.xv_frame.specs.Reading.{frames_in}
 use Rattle.xv_wire.specs.Wire.{PutBytes}
 use Rattle.xv_wire.specs.Told.{Told, CallMade}
@@ -18,11 +18,14 @@ pub record LaneSeen : Type 0 where
   pub wire : Told
   pub faults : ℕ
 
--- the layout, the format of the frames, and the streams
+-- the layout, the format of the frames, the streams, the group that is being made, and the messages of the group that was
+-- received last, which are lent
 pub record Streamed : Type 0 where
   pub shape : Shape
   pub format : ℕ
   pub lanes : List LaneSeen
+  pub making : List Message
+  pub got : List Message
 
 -- the messages of a frame, and the format that it is of
 abbrev pub messages_of : Frame → List Message
@@ -67,7 +70,7 @@ no_lane = record { groups = []; gathered = []; wire = record { capacity = 0; tra
 abbrev pub lane : Streamed → ℕ → LaneSeen
 lane s k = get_or s.lanes k no_lane
 
--- all stayed as it was but for this stream
+-- all stayed as it was but for this stream; what else changes is said of the old state
 abbrev pub OnlyLane : ℕ → Streamed → Streamed → Type 0
 OnlyLane k old new = new ≡ record old { lanes = set old.lanes k (lane new k) }
 
@@ -101,6 +104,28 @@ pub record MessageTaken (s : Shape) (result : Result (Option UnitHead) Failed) (
   pub gathered : IfOk result (λ it. new.gathered ≡ [])
   pub kept : IfErr result (λ e. new.gathered ++ new.wire.transit ≡ old.gathered ++ old.wire.transit)
   pub made : TakesMade (length old.wire.transit - length new.wire.transit) (is_err result) (wanted (frames_in s (old.gathered ++ old.wire.transit)) (length old.gathered)) old.wire new.wire old.faults new.faults
+
+-- a group was taken off a stream, or there was none, or a take failed, in the same way; it has from 1 to 16 messages
+pub record GroupTaken (s : Shape) (result : Result ℕ Failed) (old new : LaneSeen) : Type 0 where
+  pub groups : new.groups ≡ (if is_err result then old.groups else drop 1 old.groups)
+  pub answer : IfOk result (λ n. n ≡ length (first_group old.groups))
+  pub none : IfOk result (λ n. n ≡ 0 → old.groups ≡ [])
+  pub few : IfOk result (λ n. n ≤ 16)
+  pub each : IfOk result (λ n. Each (IsMessage s) (first_group old.groups))
+  pub gathered : IfOk result (λ n. new.gathered ≡ [])
+  pub kept : IfErr result (λ e. new.gathered ++ new.wire.transit ≡ old.gathered ++ old.wire.transit)
+  pub made : TakesMade (length old.wire.transit - length new.wire.transit) (is_err result) (wanted (frames_in s (old.gathered ++ old.wire.transit)) (length old.gathered)) old.wire new.wire old.faults new.faults
+
+-- the messages that are lent after a receipt: those of the first group, and none where a take failed
+abbrev pub lent : Bool → LaneSeen → List Message
+lent failed l = if failed then [] else first_group l.groups
+
+-- what stands for a message that is not there, and the message at a place
+abbrev pub no_message : Message
+no_message = message (record { unit = record { 0 = 0 }; version = 0; at = 0 }) []
+
+abbrev pub message_at : List Message → ℕ → Message
+message_at messages i = get_or messages i no_message
 
 -- a stream on which nothing is
 abbrev pub fresh_lane : Told → ℕ → LaneSeen

@@ -1,7 +1,7 @@
 //! Acknowledgements over the wire back.
 
 ghost use Rattle.std.specs.Prelude.{◌≡◌, ℕ, ◌+◌, ◌-◌, ◌<◌, ◌≤◌, ◌^◌, [], ◌∷◌, ◌++◌, length, take, drop, IfOk, IfErr, IfSome, is_err, if◌then◌else◌};
-ghost use Rattle.xv_streams.specs.Returned.{AckPut, AckTaken};
+ghost use Rattle.xv_streams.specs.Returned.{AckPut, AckTaken, AreCarried};
 ghost use Rattle.xv_frame.specs.Fields.{word_at};
 
 use crate::filling::fill;
@@ -88,7 +88,8 @@ impl<W: Wire> BackWire<W> {
 
     /// How many acknowledgements are on the way.
     pub fn waiting(&self) -> u32
-        ensures { result ≡ length self.now.counts }
+        ensures exactly { result ≡ length self.now.counts }
+        ensures carried { AreCarried self.now }
     {
         self.waiting
     }

@@ -57,6 +57,8 @@ impl<W: Wire> Streams<W> {
         ensures shape { IfOk result (λ streams. streams.shape ≡ layout) }
         ensures format { IfOk result (λ streams. streams.format ≡ format) }
         ensures empty { IfOk result (λ streams. streams.lanes ≡ map (λ w. fresh_lane (W.told w) (W.faults w)) wires.items) }
+        ensures making { IfOk result (λ streams. streams.making ≡ []) }
+        ensures got { IfOk result (λ streams. streams.got ≡ []) }
         ensures back { IfErr result (λ back. back.items ≡ wires.items) }
     {
         let room = frame_room(&layout, format);
@@ -77,7 +79,8 @@ impl<W: Wire> Streams<W> {
 
     /// The format of the frames, 1 or 2.
     pub fn format(&self) -> u8
-        ensures { result ≡ self.now.format }
+        ensures exactly { result ≡ self.now.format }
+        ensures known { (1 ≤ result) × (result ≤ 2) }
     {
         self.format
     }
@@ -85,7 +88,8 @@ impl<W: Wire> Streams<W> {
     /// How many groups of messages are on a stream.
     pub fn waiting(&self, stream: u8) -> u32
         requires { stream < length self.now.lanes }
-        ensures { result ≡ length (lane self.now stream).groups }
+        ensures exactly { result ≡ length (lane self.now stream).groups }
+        ensures carried { IsCarried self.now.shape self.now.format (lane self.now stream) }
     {
         self.lanes[stream as usize].waiting()
     }
@@ -129,6 +133,88 @@ impl<W: Wire> Streams<W> {
             &self.layout,
             into,
         )
+    }
+
+    /// Puts a message into the group that is being made, in which fewer than 16 are.
+    pub fn add(&mut self, head: UnitHead, bytes: &[u8])
+        requires format { self.old.format ≡ 2 }
+        requires few { length self.old.making < 16 }
+        requires unit_in { head.unit.0 < units self.old.shape }
+        requires made { 1 ≤ head.version }
+        requires whole { length bytes.now ≡ size self.old.shape head.unit.0 }
+        ensures { self.new ≡ record self.old { making = self.old.making ++ message head bytes.now ∷ [] } }
+    {
+        self.end = add_entry(&self.layout, head, bytes, &mut self.frame, self.end);
+        self.count += 1;
+    }
+
+    /// Sends the group that is being made on a stream, where its frame fits the wire. After it no group is being made.
+    /// Errors: the wire failed, and the lists are unchanged.
+    pub fn send_group(&mut self, stream: u8) -> Result<(), Failed>
+        requires stream_in { stream < length self.old.lanes }
+        requires some { 1 ≤ length self.old.making }
+        requires room { length (lane self.old stream).wire.transit + length (spelled (GroupFrame self.old.making)) ≤ (lane self.old stream).wire.capacity }
+        requires countable { IfSome (lane self.old stream).wire.counted (λ c. c.puts < 2 ^ 63) }
+        ensures others { OnlyLane stream (record self.old { making = [] }) self.new }
+        ensures put { FramePut (GroupFrame self.old.making) (is_err result) (lane self.old stream) (lane self.new stream) }
+    {
+        let end = self.end;
+        put_head(self.count, end, &mut self.frame);
+        self.count = 0;
+        self.end = 24;
+        let place = stream as usize;
+        put_frame(
+            &mut self.wires[place],
+            &mut self.lanes[place],
+            &self.frame[..end],
+        )
+    }
+
+    /// Takes the first group off a stream, and answers how many messages it has: 0 exactly where there is none. `got`
+    /// and `got_bytes` lend them until the next receipt.
+    /// Errors: the wire failed; the lists are unchanged, and a later call goes on with the bytes gathered.
+    pub fn receive_group(&mut self, stream: u8) -> Result<u32, Failed>
+        requires stream_in { stream < length self.old.lanes }
+        requires format { self.old.format ≡ 2 }
+        ensures others { OnlyLane stream (record self.old { got = lent (is_err result) (lane self.old stream) }) self.new }
+        ensures taken { GroupTaken self.old.shape result (lane self.old stream) (lane self.new stream) }
+    {
+        let place = stream as usize;
+        receive_messages(
+            &mut self.wires[place],
+            &mut self.lanes[place],
+            &self.layout,
+            &mut self.received,
+        )
+    }
+
+    /// A message of the group that was received last: its unit, version and when it was made.
+    pub fn got(&self, i: u32) -> UnitHead
+        requires { i < length self.now.got }
+        ensures exactly { result ≡ (message_at self.now.got i).head }
+        ensures unit_in { result.unit.0 < units self.now.shape }
+        ensures made { 1 ≤ result.version }
+    {
+        self.received.head(i as usize)
+    }
+
+    /// The content of a message of the group that was received last.
+    pub fn got_bytes(&self, i: u32) -> &[u8]
+        requires { i < length self.now.got }
+        ensures exactly { result.now ≡ (message_at self.now.got i).content }
+        ensures whole { length result.now ≡ size self.now.shape (message_at self.now.got i).head.unit.0 }
+    {
+        self.received.bytes(i as usize)
+    }
+
+    /// A law: what the bytes gathered and in transit are, and the messages that are being made into a group or lent.
+    pub fn hold_spellings(&self)
+        ensures lanes { Each (IsCarried self.now.shape self.now.format) self.now.lanes }
+        ensures making { IsMade self.now.shape self.now.making }
+        ensures got { Each (IsMessage self.now.shape) self.now.got }
+        ensures only_in_groups { self.now.format ≡ 1 → (self.now.making ≡ []) × (self.now.got ≡ []) }
+        ensures good { IsGood self.now.shape }
+    {
     }
 
     /// The wires as they are.
