@@ -7,3 +7,4 @@ pub mod PutSteps
 pub mod MessageSteps
 pub mod FreshLanes
 pub mod BackSteps
+pub mod EntrySteps

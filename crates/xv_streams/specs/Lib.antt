@@ -3,4 +3,5 @@ pub mod Lanes
 pub mod Gathered
 pub mod Streamed
 pub mod Carried
+pub mod Groups
 pub mod Returned

@@ -2,16 +2,20 @@
 
 ghost use Rattle.std.specs.Prelude.{◌≡◌, ℕ, false, ◌+◌, ◌-◌, ◌*◌, ◌<◌, ◌≤◌, ◌^◌, [], ◌∷◌, ◌++◌, length, take, drop, map, replicate, All, IfOk, IfErr, is_err, IfSome, if◌then◌else◌};
 ghost use Rattle.xv_base.specs.Units.{units, size, max_size};
-ghost use Rattle.xv_frame.specs.Frame.{UnitFrame, message, spelled};
+ghost use Rattle.xv_frame.specs.Frame.{UnitFrame, GroupFrame, Each, IsMessage, message, spelled};
 ghost use Rattle.xv_wire.specs.Wire.{PutBytes};
 ghost use Rattle.xv_wire.specs.Told.{MayCall, CallMade};
-ghost use Rattle.xv_streams.specs.Streamed.{lane, fresh_lane, frame_room, OnlyLane, FramePut, IsLaneOf, MessageTaken, seen_lane, first_group, content_of_first};
+ghost use Rattle.xv_streams.specs.Streamed.{lane, fresh_lane, frame_room, OnlyLane, FramePut, IsLaneOf, MessageTaken, GroupTaken, seen_lane, first_group, content_of_first, lent, message_at};
+ghost use Rattle.xv_streams.specs.Carried.{IsCarried, IsMade};
+ghost use Rattle.xv_streams.specs.Groups.{IsReceived, most_received};
 ghost use Rattle.xv_base.specs.Layout.{IsGood};
 ghost use Rattle.xv_frame.specs.Reading.{front_head};
 ghost use Rattle.xv_frame.specs.Faults.{read_head};
 ghost use Rattle.xv_frame.specs.declared.heads.Head.TheVariants as Head;
 
 use crate::lane::Lane;
+use crate::making::{add_entry, put_head};
+use crate::received::Received;
 use std::alloc::Global;
 use std::marker::Model;
 use xv_base::{Failed, Layout, NoMemory, UnitHead};
@@ -25,20 +29,30 @@ pub struct Streams<W: Wire> {
     format: u8,
     wires: Vec<W>,
     lanes: Vec<Lane>,
-    /// The frame that is put.
+    /// The frame that is put, or the group that is being made.
     frame: Vec<u8>,
+    /// How many messages that group has.
+    count: u32,
+    /// Where its entries end.
+    end: usize,
+    received: Received,
 }
 
 impl<W: Wire> Model for Streams<W> {
-    ghost use Rattle.std.specs.Prelude.{◌≡◌, length};
-    ghost use Rattle.xv_base.specs.Layout.{IsGood};
-    ghost use Rattle.xv_streams.specs.Streamed.{Streamed, seen_lanes, AreLanesOf, frame_room};
+    ghost use Rattle.xv_streams.specs.Streamed.{Streamed, seen_lanes};
+    ghost use Rattle.xv_streams.specs.Groups.{messages_in, AreStreams};
 
     ghost Value = { Streamed };
 
-    ghost view = { λ s. record { shape = s.layout; format = s.format; lanes = seen_lanes W.told W.faults s.layout s.wires.items s.lanes.items } };
+    ghost view = { λ s. record {
+      shape = s.layout;
+      format = s.format;
+      lanes = seen_lanes W.told W.faults s.layout s.wires.items s.lanes.items;
+      making = messages_in s.layout s.count s.frame.items;
+      got = s.received.messages;
+    } };
 
-    ghost invariant = { λ s. AreLanesOf W.told s.layout s.format s.wires.items s.lanes.items × IsGood s.layout × (length s.frame.items ≡ frame_room s.layout s.format) };
+    ghost invariant = { λ s. AreStreams W.told s.layout s.format s.wires.items s.lanes.items s.frame.items s.count s.end s.received };
 }
 
 impl<W: Wire> Streams<W> {
@@ -68,12 +82,19 @@ impl<W: Wire> Streams<W> {
         let Ok(frame) = Vec::from_elem(alloc, 0, room) else {
             return Err(wires);
         };
+        let size = layout.max_size() as usize;
+        let Ok(received) = Received::new(alloc, most_received(format), size) else {
+            return Err(wires);
+        };
         Ok(Streams {
             layout,
             format,
             wires,
             lanes,
             frame,
+            count: 0,
+            end: 24,
+            received,
         })
     }
 
@@ -268,6 +289,38 @@ fn receive_message<W: Wire>(
     }
 }
 
+/// Takes the first group off a lane of groups, and keeps its messages.
+fn receive_messages<W: Wire>(
+    wire: &mut W,
+    lane: &mut Lane,
+    layout: &Layout,
+    received: &mut Received,
+) -> Result<u32, Failed>
+    requires good { IsGood layout.now }
+    requires lane { IsLaneOf layout.now 2 (W.told wire.old) lane.old }
+    requires received { IsReceived layout.now 2 received.old }
+    ensures lane { IsLaneOf layout.now 2 (W.told wire.new) lane.new }
+    ensures received { IsReceived layout.now 2 received.new }
+    ensures messages { received.new.messages ≡ lent (is_err result) (seen_lane layout.now (W.told wire.old) (W.faults wire.old) lane.old) }
+    ensures taken { GroupTaken layout.now result (seen_lane layout.now (W.told wire.old) (W.faults wire.old) lane.old) (seen_lane layout.now (W.told wire.new) (W.faults wire.new) lane.new) }
+{
+    match lane.gather(wire, layout) {
+        Ok(true) => {
+            let count = received.read(lane.bytes(), layout);
+            lane.taken_off();
+            Ok(count)
+        }
+        Ok(false) => {
+            received.clear();
+            Ok(0)
+        }
+        Err(_) => {
+            received.clear();
+            Err(Failed)
+        }
+    }
+}
+
 /// Reads a unit frame, whose content goes to the first bytes of `into`.
 fn read_unit(frame: &[u8], layout: &Layout, into: &mut [u8]) -> UnitHead
     requires long { 24 ≤ length frame.now }
@@ -296,6 +349,13 @@ fn frame_room(layout: &Layout, format: u8) -> usize
     } else {
         24 + 16 * (20 + size)
     }
+}
+
+/// How many messages may be received together.
+fn most_received(format: u8) -> usize
+    ensures { result ≡ most_received format }
+{
+    if format == 1 { 0 } else { 16 }
 }
 
 /// Lanes on which nothing is.

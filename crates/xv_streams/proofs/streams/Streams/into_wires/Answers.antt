@@ -6,5 +6,5 @@ use Rattle.xv_streams.proofs.streams.Streams.into_wires.Goals as goal
 pub returns : goal.returns
 returns g c =
     let s = c.self.inside in
-    wires-seen g.W.Wire.told g.W.Wire.faults s.layout s.format 0 s.wires.items s.lanes.items c.self.invariant.0
+    wires-seen g.W.Wire.told g.W.Wire.faults s.layout s.format 0 s.wires.items s.lanes.items c.self.invariant.lanes
     ∙ ap (λ (v : Streamed). map (λ (l : LaneSeen). l.wire) v.lanes) c.self.view_is

@@ -16,19 +16,19 @@ encode_unit-size-requires-clause-room g c =
     let unit : c.args.head.unit.0 < units s.layout = subst (λ (v : Streamed). c.args.head.unit.0 < units v.shape) (sym c.self.view_is) c.requires.unit_in in
     let whole : length c.args.bytes.now ≡ size s.layout c.args.head.unit.0 = subst (λ (v : Streamed). length c.args.bytes.now ≡ size v.shape c.args.head.unit.0) (sym c.self.view_is) c.requires.whole in
     let format : s.format ≡ 1 = subst (λ (v : Streamed). v.format ≡ 1) (sym c.self.view_is) c.requires.format in
-    omega (arith, unit-room s.layout s.format c.args.head.unit.0 c.self.invariant.1 format unit, whole, c.self.invariant.2, ap length c.deref_mut.ensures.value)
+    omega (arith, unit-room s.layout s.format c.args.head.unit.0 c.self.invariant.good format unit, whole, c.self.invariant.room, ap length c.deref_mut.ensures.value)
 
 pub index_mut-requires : goal.index_mut-requires
 index_mut-requires g c =
     let s = c.self.inside in
     let there : c.args.stream < length (seen_lanes g.W.Wire.told g.W.Wire.faults s.layout s.wires.items s.lanes.items) = subst (λ (v : Streamed). c.args.stream < length v.lanes) (sym c.self.view_is) c.requires.stream_in in
-    omega (arith, there, length-seen g.W.Wire.told g.W.Wire.faults s.layout s.format s.wires.items s.lanes.items c.self.invariant.0, as-many g.W.Wire.told g.W.Wire.faults s.layout s.format s.wires.items s.lanes.items c.self.invariant.0, s.wires.ok.0)
+    omega (arith, there, length-seen g.W.Wire.told g.W.Wire.faults s.layout s.format s.wires.items s.lanes.items c.self.invariant.lanes, as-many g.W.Wire.told g.W.Wire.faults s.layout s.format s.wires.items s.lanes.items c.self.invariant.lanes, s.wires.ok.0)
 
 pub index_mut-requires-2 : goal.index_mut-requires-2
 index_mut-requires-2 g c =
     let s = c.self.inside in
     let there : c.args.stream < length (seen_lanes g.W.Wire.told g.W.Wire.faults s.layout s.wires.items s.lanes.items) = subst (λ (v : Streamed). c.args.stream < length v.lanes) (sym c.self.view_is) c.requires.stream_in in
-    omega (arith, there, length-seen g.W.Wire.told g.W.Wire.faults s.layout s.format s.wires.items s.lanes.items c.self.invariant.0, s.lanes.ok.0)
+    omega (arith, there, length-seen g.W.Wire.told g.W.Wire.faults s.layout s.format s.wires.items s.lanes.items c.self.invariant.lanes, s.lanes.ok.0)
 
 pub slice_bounds-put_frame-end : goal.slice_bounds-put_frame-end
 slice_bounds-put_frame-end g c =
@@ -41,7 +41,7 @@ slice_bounds-put_frame-end g c =
     let l = c.index_mut-2.result.now in
     let fr : Frame = UnitFrame (message c.args.head c.args.bytes.now) in
     let there : c.args.stream < length (seen_lanes told faults s.layout ws ls) = subst (λ (v : Streamed). c.args.stream < length v.lanes) (sym c.self.view_is) c.requires.stream_in in
-    let at : Here told faults s.layout s.format ws ls c.args.stream w l = here told faults s.layout s.format ws ls c.args.stream w l c.self.invariant.0 there c.index_mut.ensures.value c.index_mut-2.ensures.value in
+    let at : Here told faults s.layout s.format ws ls c.args.stream w l = here told faults s.layout s.format ws ls c.args.stream w l c.self.invariant.lanes there c.index_mut.ensures.value c.index_mut-2.ensures.value in
     let long : length (spelled fr) ≡ c.encode_unit-size.result = length-unit c.args.head c.args.bytes.now ∙ sym c.encode_unit-size.ensures.count in
     let kept : length c.encode_unit-size.new.into ≡ s.frame.len = c.encode_unit-size.auto.into ∙ c.deref_mut.ensures.len in
     let frame : take c.encode_unit-size.result c.deref.result.now ≡ spelled fr =
@@ -59,7 +59,7 @@ put_frame-requires-clause-room g c =
     let l = c.index_mut-2.result.now in
     let fr : Frame = UnitFrame (message c.args.head c.args.bytes.now) in
     let there : c.args.stream < length (seen_lanes told faults s.layout ws ls) = subst (λ (v : Streamed). c.args.stream < length v.lanes) (sym c.self.view_is) c.requires.stream_in in
-    let at : Here told faults s.layout s.format ws ls c.args.stream w l = here told faults s.layout s.format ws ls c.args.stream w l c.self.invariant.0 there c.index_mut.ensures.value c.index_mut-2.ensures.value in
+    let at : Here told faults s.layout s.format ws ls c.args.stream w l = here told faults s.layout s.format ws ls c.args.stream w l c.self.invariant.lanes there c.index_mut.ensures.value c.index_mut-2.ensures.value in
     let long : length (spelled fr) ≡ c.encode_unit-size.result = length-unit c.args.head c.args.bytes.now ∙ sym c.encode_unit-size.ensures.count in
     let kept : length c.encode_unit-size.new.into ≡ s.frame.len = c.encode_unit-size.auto.into ∙ c.deref_mut.ensures.len in
     let frame : take c.encode_unit-size.result c.deref.result.now ≡ spelled fr =
@@ -84,7 +84,7 @@ put_frame-requires-clause-few g c =
     let l = c.index_mut-2.result.now in
     let fr : Frame = UnitFrame (message c.args.head c.args.bytes.now) in
     let there : c.args.stream < length (seen_lanes told faults s.layout ws ls) = subst (λ (v : Streamed). c.args.stream < length v.lanes) (sym c.self.view_is) c.requires.stream_in in
-    let at : Here told faults s.layout s.format ws ls c.args.stream w l = here told faults s.layout s.format ws ls c.args.stream w l c.self.invariant.0 there c.index_mut.ensures.value c.index_mut-2.ensures.value in
+    let at : Here told faults s.layout s.format ws ls c.args.stream w l = here told faults s.layout s.format ws ls c.args.stream w l c.self.invariant.lanes there c.index_mut.ensures.value c.index_mut-2.ensures.value in
     let long : length (spelled fr) ≡ c.encode_unit-size.result = length-unit c.args.head c.args.bytes.now ∙ sym c.encode_unit-size.ensures.count in
     let kept : length c.encode_unit-size.new.into ≡ s.frame.len = c.encode_unit-size.auto.into ∙ c.deref_mut.ensures.len in
     let frame : take c.encode_unit-size.result c.deref.result.now ≡ spelled fr =
@@ -102,12 +102,12 @@ put_frame-requires-clause-short g c =
     let l = c.index_mut-2.result.now in
     let fr : Frame = UnitFrame (message c.args.head c.args.bytes.now) in
     let there : c.args.stream < length (seen_lanes told faults s.layout ws ls) = subst (λ (v : Streamed). c.args.stream < length v.lanes) (sym c.self.view_is) c.requires.stream_in in
-    let at : Here told faults s.layout s.format ws ls c.args.stream w l = here told faults s.layout s.format ws ls c.args.stream w l c.self.invariant.0 there c.index_mut.ensures.value c.index_mut-2.ensures.value in
+    let at : Here told faults s.layout s.format ws ls c.args.stream w l = here told faults s.layout s.format ws ls c.args.stream w l c.self.invariant.lanes there c.index_mut.ensures.value c.index_mut-2.ensures.value in
     let long : length (spelled fr) ≡ c.encode_unit-size.result = length-unit c.args.head c.args.bytes.now ∙ sym c.encode_unit-size.ensures.count in
     let kept : length c.encode_unit-size.new.into ≡ s.frame.len = c.encode_unit-size.auto.into ∙ c.deref_mut.ensures.len in
     let frame : take c.encode_unit-size.result c.deref.result.now ≡ spelled fr =
     framed (spelled fr) c.deref_mut.result.now c.encode_unit-size.new.into c.deref.result.now s.frame.items c.encode_unit-size.result s.frame.len c.encode_unit-size.ensures.spelled long c.deref.ensures.value kept in
-    omega (arith, short-lane s.layout s.format (told w) l c.self.invariant.1 at.lane)
+    omega (arith, short-lane s.layout s.format (told w) l c.self.invariant.good at.lane)
 
 pub invariant_of-self : goal.invariant_of-self
 invariant_of-self g c =
@@ -120,7 +120,7 @@ invariant_of-self g c =
     let l = c.index_mut-2.result.now in
     let fr : Frame = UnitFrame (message c.args.head c.args.bytes.now) in
     let there : c.args.stream < length (seen_lanes told faults s.layout ws ls) = subst (λ (v : Streamed). c.args.stream < length v.lanes) (sym c.self.view_is) c.requires.stream_in in
-    let at : Here told faults s.layout s.format ws ls c.args.stream w l = here told faults s.layout s.format ws ls c.args.stream w l c.self.invariant.0 there c.index_mut.ensures.value c.index_mut-2.ensures.value in
+    let at : Here told faults s.layout s.format ws ls c.args.stream w l = here told faults s.layout s.format ws ls c.args.stream w l c.self.invariant.lanes there c.index_mut.ensures.value c.index_mut-2.ensures.value in
     let long : length (spelled fr) ≡ c.encode_unit-size.result = length-unit c.args.head c.args.bytes.now ∙ sym c.encode_unit-size.ensures.count in
     let kept : length c.encode_unit-size.new.into ≡ s.frame.len = c.encode_unit-size.auto.into ∙ c.deref_mut.ensures.len in
     let frame : take c.encode_unit-size.result c.deref.result.now ≡ spelled fr =
@@ -129,14 +129,14 @@ invariant_of-self g c =
     let whole : length c.args.bytes.now ≡ size s.layout c.args.head.unit.0 = subst (λ (v : Streamed). length c.args.bytes.now ≡ size v.shape c.args.head.unit.0) (sym c.self.view_is) c.requires.whole in
     let format : s.format ≡ 1 = subst (λ (v : Streamed). v.format ≡ 1) (sym c.self.view_is) c.requires.format in
     let good : IsFrame s.layout fr = record { unit_in = unit; made = c.requires.made; version_fits = search (rules, c.type_inv); at_fits = search (rules, c.type_inv); whole = whole } in
-    let fits : length (spelled fr) ≤ l.room = omega (arith, unit-room s.layout s.format c.args.head.unit.0 c.self.invariant.1 format unit, whole, at.lane.roomy, length-unit c.args.head c.args.bytes.now) in
+    let fits : length (spelled fr) ≤ l.room = omega (arith, unit-room s.layout s.format c.args.head.unit.0 c.self.invariant.good format unit, whole, at.lane.roomy, length-unit c.args.head c.args.bytes.now) in
     let made : CallMade (PutBytes (spelled fr)) (is_err c.put_frame.result) (told w) (told c.put_frame.new.wire) (faults w) (faults c.put_frame.new.wire) =
     subst (λ (b : List ℕ). CallMade (PutBytes b) (is_err c.put_frame.result) (told w) (told c.put_frame.new.wire) (faults w) (faults c.put_frame.new.wire)) frame c.put_frame.ensures.made in
     let is : IsPut s.layout s.format fr (is_err c.put_frame.result) (told w) (told c.put_frame.new.wire) (faults w) (faults c.put_frame.new.wire) l c.put_frame.new.lane =
-    put-lane s.layout s.format fr (is_err c.put_frame.result) (told w) (told c.put_frame.new.wire) (faults w) (faults c.put_frame.new.wire) l c.put_frame.new.lane c.self.invariant.1 at.lane good (sym format) fits made c.put_frame.ensures.counted in
+    put-lane s.layout s.format fr (is_err c.put_frame.result) (told w) (told c.put_frame.new.wire) (faults w) (faults c.put_frame.new.wire) l c.put_frame.new.lane c.self.invariant.good at.lane good (sym format) fits made c.put_frame.ensures.counted in
     let done : Changed told faults s.layout s.format ws ls c.args.stream c.put_frame.new.wire c.put_frame.new.lane =
-    changed told faults s.layout s.format ws ls c.args.stream c.put_frame.new.wire c.put_frame.new.lane c.self.invariant.0 at.there is.lane in
-    (done.lanes, c.self.invariant.1, ap length (take_at c.encode_unit-size.new.into (drop (length c.encode_unit-size.new.into) s.frame.items) s.frame.len kept) ∙ kept ∙ s.frame.ok.0 ∙ c.self.invariant.2)
+    changed told faults s.layout s.format ws ls c.args.stream c.put_frame.new.wire c.put_frame.new.lane c.self.invariant.lanes at.there is.lane in
+    (done.lanes, c.self.invariant.good, ap length (take_at c.encode_unit-size.new.into (drop (length c.encode_unit-size.new.into) s.frame.items) s.frame.len kept) ∙ kept ∙ s.frame.ok.0 ∙ c.self.invariant.room)
 
 pub returns-clause-others : goal.returns-clause-others
 returns-clause-others g c =
@@ -149,7 +149,7 @@ returns-clause-others g c =
     let l = c.index_mut-2.result.now in
     let fr : Frame = UnitFrame (message c.args.head c.args.bytes.now) in
     let there : c.args.stream < length (seen_lanes told faults s.layout ws ls) = subst (λ (v : Streamed). c.args.stream < length v.lanes) (sym c.self.view_is) c.requires.stream_in in
-    let at : Here told faults s.layout s.format ws ls c.args.stream w l = here told faults s.layout s.format ws ls c.args.stream w l c.self.invariant.0 there c.index_mut.ensures.value c.index_mut-2.ensures.value in
+    let at : Here told faults s.layout s.format ws ls c.args.stream w l = here told faults s.layout s.format ws ls c.args.stream w l c.self.invariant.lanes there c.index_mut.ensures.value c.index_mut-2.ensures.value in
     let long : length (spelled fr) ≡ c.encode_unit-size.result = length-unit c.args.head c.args.bytes.now ∙ sym c.encode_unit-size.ensures.count in
     let kept : length c.encode_unit-size.new.into ≡ s.frame.len = c.encode_unit-size.auto.into ∙ c.deref_mut.ensures.len in
     let frame : take c.encode_unit-size.result c.deref.result.now ≡ spelled fr =
@@ -158,13 +158,13 @@ returns-clause-others g c =
     let whole : length c.args.bytes.now ≡ size s.layout c.args.head.unit.0 = subst (λ (v : Streamed). length c.args.bytes.now ≡ size v.shape c.args.head.unit.0) (sym c.self.view_is) c.requires.whole in
     let format : s.format ≡ 1 = subst (λ (v : Streamed). v.format ≡ 1) (sym c.self.view_is) c.requires.format in
     let good : IsFrame s.layout fr = record { unit_in = unit; made = c.requires.made; version_fits = search (rules, c.type_inv); at_fits = search (rules, c.type_inv); whole = whole } in
-    let fits : length (spelled fr) ≤ l.room = omega (arith, unit-room s.layout s.format c.args.head.unit.0 c.self.invariant.1 format unit, whole, at.lane.roomy, length-unit c.args.head c.args.bytes.now) in
+    let fits : length (spelled fr) ≤ l.room = omega (arith, unit-room s.layout s.format c.args.head.unit.0 c.self.invariant.good format unit, whole, at.lane.roomy, length-unit c.args.head c.args.bytes.now) in
     let made : CallMade (PutBytes (spelled fr)) (is_err c.put_frame.result) (told w) (told c.put_frame.new.wire) (faults w) (faults c.put_frame.new.wire) =
     subst (λ (b : List ℕ). CallMade (PutBytes b) (is_err c.put_frame.result) (told w) (told c.put_frame.new.wire) (faults w) (faults c.put_frame.new.wire)) frame c.put_frame.ensures.made in
     let is : IsPut s.layout s.format fr (is_err c.put_frame.result) (told w) (told c.put_frame.new.wire) (faults w) (faults c.put_frame.new.wire) l c.put_frame.new.lane =
-    put-lane s.layout s.format fr (is_err c.put_frame.result) (told w) (told c.put_frame.new.wire) (faults w) (faults c.put_frame.new.wire) l c.put_frame.new.lane c.self.invariant.1 at.lane good (sym format) fits made c.put_frame.ensures.counted in
+    put-lane s.layout s.format fr (is_err c.put_frame.result) (told w) (told c.put_frame.new.wire) (faults w) (faults c.put_frame.new.wire) l c.put_frame.new.lane c.self.invariant.good at.lane good (sym format) fits made c.put_frame.ensures.counted in
     let done : Changed told faults s.layout s.format ws ls c.args.stream c.put_frame.new.wire c.put_frame.new.lane =
-    changed told faults s.layout s.format ws ls c.args.stream c.put_frame.new.wire c.put_frame.new.lane c.self.invariant.0 at.there is.lane in
+    changed told faults s.layout s.format ws ls c.args.stream c.put_frame.new.wire c.put_frame.new.lane c.self.invariant.lanes at.there is.lane in
     subst (λ (v : Streamed). record { shape = s.layout; format = s.format; lanes = seen_lanes told faults s.layout (set ws c.args.stream c.put_frame.new.wire) (set ls c.args.stream c.put_frame.new.lane) }
     ≡ record v { lanes = set v.lanes c.args.stream (get_or (seen_lanes told faults s.layout (set ws c.args.stream c.put_frame.new.wire) (set ls c.args.stream c.put_frame.new.lane)) c.args.stream no_lane) }) c.self.view_is
     (ap (λ (xs : List LaneSeen). record { shape = s.layout; format = s.format; lanes = xs }) done.only)
@@ -180,7 +180,7 @@ returns-clause-put g c =
     let l = c.index_mut-2.result.now in
     let fr : Frame = UnitFrame (message c.args.head c.args.bytes.now) in
     let there : c.args.stream < length (seen_lanes told faults s.layout ws ls) = subst (λ (v : Streamed). c.args.stream < length v.lanes) (sym c.self.view_is) c.requires.stream_in in
-    let at : Here told faults s.layout s.format ws ls c.args.stream w l = here told faults s.layout s.format ws ls c.args.stream w l c.self.invariant.0 there c.index_mut.ensures.value c.index_mut-2.ensures.value in
+    let at : Here told faults s.layout s.format ws ls c.args.stream w l = here told faults s.layout s.format ws ls c.args.stream w l c.self.invariant.lanes there c.index_mut.ensures.value c.index_mut-2.ensures.value in
     let long : length (spelled fr) ≡ c.encode_unit-size.result = length-unit c.args.head c.args.bytes.now ∙ sym c.encode_unit-size.ensures.count in
     let kept : length c.encode_unit-size.new.into ≡ s.frame.len = c.encode_unit-size.auto.into ∙ c.deref_mut.ensures.len in
     let frame : take c.encode_unit-size.result c.deref.result.now ≡ spelled fr =
@@ -189,13 +189,13 @@ returns-clause-put g c =
     let whole : length c.args.bytes.now ≡ size s.layout c.args.head.unit.0 = subst (λ (v : Streamed). length c.args.bytes.now ≡ size v.shape c.args.head.unit.0) (sym c.self.view_is) c.requires.whole in
     let format : s.format ≡ 1 = subst (λ (v : Streamed). v.format ≡ 1) (sym c.self.view_is) c.requires.format in
     let good : IsFrame s.layout fr = record { unit_in = unit; made = c.requires.made; version_fits = search (rules, c.type_inv); at_fits = search (rules, c.type_inv); whole = whole } in
-    let fits : length (spelled fr) ≤ l.room = omega (arith, unit-room s.layout s.format c.args.head.unit.0 c.self.invariant.1 format unit, whole, at.lane.roomy, length-unit c.args.head c.args.bytes.now) in
+    let fits : length (spelled fr) ≤ l.room = omega (arith, unit-room s.layout s.format c.args.head.unit.0 c.self.invariant.good format unit, whole, at.lane.roomy, length-unit c.args.head c.args.bytes.now) in
     let made : CallMade (PutBytes (spelled fr)) (is_err c.put_frame.result) (told w) (told c.put_frame.new.wire) (faults w) (faults c.put_frame.new.wire) =
     subst (λ (b : List ℕ). CallMade (PutBytes b) (is_err c.put_frame.result) (told w) (told c.put_frame.new.wire) (faults w) (faults c.put_frame.new.wire)) frame c.put_frame.ensures.made in
     let is : IsPut s.layout s.format fr (is_err c.put_frame.result) (told w) (told c.put_frame.new.wire) (faults w) (faults c.put_frame.new.wire) l c.put_frame.new.lane =
-    put-lane s.layout s.format fr (is_err c.put_frame.result) (told w) (told c.put_frame.new.wire) (faults w) (faults c.put_frame.new.wire) l c.put_frame.new.lane c.self.invariant.1 at.lane good (sym format) fits made c.put_frame.ensures.counted in
+    put-lane s.layout s.format fr (is_err c.put_frame.result) (told w) (told c.put_frame.new.wire) (faults w) (faults c.put_frame.new.wire) l c.put_frame.new.lane c.self.invariant.good at.lane good (sym format) fits made c.put_frame.ensures.counted in
     let done : Changed told faults s.layout s.format ws ls c.args.stream c.put_frame.new.wire c.put_frame.new.lane =
-    changed told faults s.layout s.format ws ls c.args.stream c.put_frame.new.wire c.put_frame.new.lane c.self.invariant.0 at.there is.lane in
+    changed told faults s.layout s.format ws ls c.args.stream c.put_frame.new.wire c.put_frame.new.lane c.self.invariant.lanes at.there is.lane in
     let before : lane c.args.self.now c.args.stream ≡ seen_lane s.layout (told w) (faults w) l = subst (λ (v : Streamed). lane v c.args.stream ≡ seen_lane s.layout (told w) (faults w) l) c.self.view_is at.seen in
     subst (λ (x : LaneSeen). FramePut fr (is_err c.put_frame.result) x (get_or (seen_lanes told faults s.layout (set ws c.args.stream c.put_frame.new.wire) (set ls c.args.stream c.put_frame.new.lane)) c.args.stream no_lane)) (sym before)
     (subst (λ (y : LaneSeen). FramePut fr (is_err c.put_frame.result) (seen_lane s.layout (told w) (faults w) l) y) (sym done.seen) is.seen)

@@ -1,0 +1,40 @@
+//! The frame of a group while it is being made: entries behind the place of its head.
+
+ghost use Rattle.std.specs.Prelude.{◌≡◌, ◌+◌, ◌-◌, ◌^◌, ◌<◌, ◌≤◌, ◌++◌, length, take, drop};
+ghost use Rattle.xv_base.specs.Units.{units, size};
+ghost use Rattle.xv_frame.specs.Frame.{message, entry, group_head};
+
+use xv_base::{Layout, UnitHead};
+use xv_frame::{encode_entry, encode_group_head};
+
+/// Writes the entry of a message from `end` on, and answers where it ends.
+pub fn add_entry(
+    layout: &Layout,
+    head: UnitHead,
+    bytes: &[u8],
+    frame: &mut [u8],
+    end: usize,
+) -> usize
+    requires unit_in { head.unit.0 < units layout.now }
+    requires made { 1 ≤ head.version }
+    requires whole { length bytes.now ≡ size layout.now head.unit.0 }
+    requires room { end + (20 + length bytes.now) ≤ length frame.old }
+    ensures end { result ≡ end + length (entry (message head bytes.now)) }
+    ensures added { frame.new ≡ take end frame.old ++ (entry (message head bytes.now) ++ drop result frame.old) }
+{
+    end + encode_entry(layout, head, bytes, &mut frame[end..])
+}
+
+/// Writes the head of a group of so many messages, whose entries end at `end`.
+pub fn put_head(count: u32, end: usize, frame: &mut [u8])
+    requires some { 1 ≤ count }
+    requires few { count ≤ 16 }
+    requires begun { 24 ≤ end }
+    requires short { end < 2 ^ 32 }
+    requires room { 24 ≤ length frame.old }
+    ensures { frame.new ≡ group_head count (end - 24) ++ drop 24 frame.old }
+{
+    let mut head = [0; 24];
+    encode_group_head(count, (end - 24) as u32, &mut head);
+    frame[..24].copy_from_slice(&head);
+}
