@@ -6,7 +6,7 @@ use Rattle.std.proofs.lemmas.List.{append-nil, map-append, length-map}
 use Rattle.xv_base.specs.declared.unit.Failed.{Failed}
 use Rattle.xv_base.specs.Layout.{IsGood}
 use Rattle.xv_frame.specs.Fields.{word_at}
-use Rattle.xv_frame.specs.Frame.{Frame, UnitFrame, AckFrame, GroupFrame, Each, all_spelled, ack}
+use Rattle.xv_frame.specs.Frame.{Frame, UnitFrame, AckFrame, GroupFrame, Each, IsFrame, all_spelled, ack}
 use Rattle.xv_frame.specs.Reading.{frames_in}
 use Rattle.xv_frame.proofs.ReadHeads.{length-ack, count-back}
 use Rattle.xv_frame.proofs.Accepted.{length-spelled}
@@ -15,7 +15,7 @@ use Rattle.xv_wire.specs.Told.{Told, CallMade}
 use Rattle.xv_streams.specs.Taking.{TakesMade}
 use Rattle.xv_streams.specs.Lanes.{front_size, wanted, FrameTaken}
 use Rattle.xv_streams.specs.Streamed.{format_of, frame_room}
-use Rattle.xv_streams.specs.Returned.{returned, any_shape, count_of, back_lane, IsBack, AckPut, AckTaken, first_count, ack_left}
+use Rattle.xv_streams.specs.Returned.{returned, any_shape, count_of, back_lane, IsBack, AckPut, AckTaken, first_count, ack_left, AreCarried}
 use Rattle.xv_streams.proofs.FrameTakes.{Fills, fills-move, head-failed, head-none}
 use Rattle.xv_streams.proofs.LaneSteps.{frames-more, lane-kept, whole-frame, Whole}
 use Rattle.xv_streams.proofs.PutSteps.{IsPut, put-lane, few-frames}
@@ -151,3 +151,31 @@ counts-counted bytes t w a h = h.counted ∙ sym (length-map (frames_in any_shap
 
 pub few-acks : (bytes : List ℕ) (t : Told) (w : ℕ) → IsBack bytes t w → w * 24 ≤ length bytes + length t.transit
 few-acks bytes t w h = few-frames any_shape 0 t (back_lane bytes w) h
+
+-- the bytes are the spellings of the counts' acknowledgements
+record AreAcks (fs : List Frame) : Type 0 where
+  same : map AckFrame (map count_of fs) ≡ fs
+  counts : Each (λ n. (1 ≤ n) × (n ≤ 1024)) (map count_of fs)
+  bytes : length (all_spelled fs) ≡ 24 * length (map count_of fs)
+
+are-acks : (fs : List Frame) → Each (IsFrame any_shape) fs → Each (λ x. format_of x ≡ 0) fs → AreAcks fs
+are-acks [] h k = record { same = refl; counts = tt; bytes = omega arith }
+are-acks (AckFrame n ∷ fs) h k =
+    let rest = are-acks fs h.1 k.1 in
+    record {
+      same = ap (λ xs. AckFrame n ∷ xs) rest.same;
+      counts = (h.0, rest.counts);
+      bytes = omega (arith, length-append (ack n) (all_spelled fs), length-ack n, rest.bytes);
+    }
+are-acks (UnitFrame m ∷ fs) h k = absurd (omega (arith, k.0))
+are-acks (GroupFrame ms ∷ fs) h k = absurd (omega (arith, k.0))
+
+pub back-carried : (bytes : List ℕ) (t : Told) (w a : ℕ) → IsBack bytes t w → AreCarried (returned bytes t a)
+back-carried bytes t w a h =
+    let fs = frames_in any_shape (bytes ++ t.transit) in
+    let all = are-acks fs h.lane.each h.kinds in
+    record {
+      stand = sym h.lane.stand ∙ ap all_spelled (sym all.same);
+      counts = all.counts;
+      bytes = sym (length-append bytes t.transit) ∙ ap length (sym h.lane.stand) ∙ all.bytes;
+    }

@@ -8,3 +8,5 @@ pub mod MessageSteps
 pub mod FreshLanes
 pub mod BackSteps
 pub mod EntrySteps
+pub mod Carries
+pub mod MakingSteps

@@ -236,6 +236,7 @@ impl<W: Wire> Streams<W> {
         ensures only_in_groups { self.now.format ≡ 1 → (self.now.making ≡ []) × (self.now.got ≡ []) }
         ensures good { IsGood self.now.shape }
     {
+        let _ = &self.layout;
     }
 
     /// The wires as they are.

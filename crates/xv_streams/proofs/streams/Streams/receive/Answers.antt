@@ -1,6 +1,8 @@
 use Rattle.std.proofs.Common.{◌≡◌, ℕ, ◌<◌, ◌≤◌, List, length, get_or, set, take, sym, ap, subst, arith}
 use Rattle.xv_base.specs.Units.{max_size}
 use Rattle.xv_streams.specs.Streamed.{Streamed, LaneSeen, IsLaneOf, lane, seen_lanes, seen_lane, no_lane, MessageTaken, first_group, content_of_first}
+use Rattle.xv_frame.specs.Frame.{Message}
+use Rattle.xv_streams.specs.Groups.{messages_in}
 use Rattle.xv_streams.proofs.PutSteps.{Here, here, Changed, changed}
 use Rattle.xv_streams.proofs.Zips.{length-seen, as-many}
 use Rattle.xv_streams.proofs.streams.Streams.receive.Goals as goal
@@ -50,7 +52,7 @@ invariant_of-self g c =
     let lane' : IsLaneOf s.layout s.format (told c.receive_message.new.wire) c.receive_message.new.lane = subst (λ (k : ℕ). IsLaneOf s.layout k (told c.receive_message.new.wire) c.receive_message.new.lane) (sym format) c.receive_message.ensures.lane in
     let done : Changed told faults s.layout s.format ws ls c.args.stream c.receive_message.new.wire c.receive_message.new.lane =
     changed told faults s.layout s.format ws ls c.args.stream c.receive_message.new.wire c.receive_message.new.lane c.self.invariant.lanes at.there lane' in
-    (done.lanes, c.self.invariant.good, c.self.invariant.room)
+    record { lanes = done.lanes; good = c.self.invariant.good; room = c.self.invariant.room; formats = c.self.invariant.formats; making = c.self.invariant.making; got = c.self.invariant.got }
 
 pub returns-clause-others : goal.returns-clause-others
 returns-clause-others g c =
@@ -67,9 +69,10 @@ returns-clause-others g c =
     let lane' : IsLaneOf s.layout s.format (told c.receive_message.new.wire) c.receive_message.new.lane = subst (λ (k : ℕ). IsLaneOf s.layout k (told c.receive_message.new.wire) c.receive_message.new.lane) (sym format) c.receive_message.ensures.lane in
     let done : Changed told faults s.layout s.format ws ls c.args.stream c.receive_message.new.wire c.receive_message.new.lane =
     changed told faults s.layout s.format ws ls c.args.stream c.receive_message.new.wire c.receive_message.new.lane c.self.invariant.lanes at.there lane' in
-    subst (λ (v : Streamed). record { shape = s.layout; format = s.format; lanes = seen_lanes told faults s.layout (set ws c.args.stream c.receive_message.new.wire) (set ls c.args.stream c.receive_message.new.lane) }
+    let making : List Message = messages_in s.layout s.count s.frame.items in
+    subst (λ (v : Streamed). record { shape = s.layout; format = s.format; lanes = seen_lanes told faults s.layout (set ws c.args.stream c.receive_message.new.wire) (set ls c.args.stream c.receive_message.new.lane); making = making; got = s.received.messages }
     ≡ record v { lanes = set v.lanes c.args.stream (get_or (seen_lanes told faults s.layout (set ws c.args.stream c.receive_message.new.wire) (set ls c.args.stream c.receive_message.new.lane)) c.args.stream no_lane) }) c.self.view_is
-    (ap (λ (xs : List LaneSeen). record { shape = s.layout; format = s.format; lanes = xs }) done.only)
+    (ap (λ (xs : List LaneSeen). record { shape = s.layout; format = s.format; lanes = xs; making = making; got = s.received.messages }) done.only)
 
 pub returns-clause-taken : goal.returns-clause-taken
 returns-clause-taken g c =

@@ -1,4 +1,4 @@
-use Rattle.std.proofs.Common.{◌≡◌, ℕ, ◌+◌, ◌^◌, ◌<◌, ◌≤◌, List, length, get_or, set, take, drop, sym, ap, ◌∙◌, subst, arith, rules}
+use Rattle.std.proofs.Common.{◌≡◌, ℕ, ◌+◌, ◌^◌, ◌<◌, ◌≤◌, List, ◌++◌, length, get_or, set, take, drop, sym, ap, ◌∙◌, subst, arith, rules}
 use Rattle.std.specs.Prelude.{is_err, IfSome}
 use Rattle.std.proofs.lemmas.List.{take_at}
 use Rattle.xv_base.specs.Units.{units, size}
@@ -6,6 +6,8 @@ use Rattle.xv_frame.specs.Frame.{Frame, UnitFrame, message, spelled, IsFrame}
 use Rattle.xv_wire.specs.Wire.{PutBytes}
 use Rattle.xv_wire.specs.Told.{MayCall, CallMade}
 use Rattle.xv_streams.specs.Streamed.{Streamed, LaneSeen, lane, seen_lanes, seen_lane, no_lane, FramePut}
+use Rattle.xv_streams.specs.Groups.{messages_in}
+use Rattle.xv_streams.proofs.MakingSteps.{none-made}
 use Rattle.xv_streams.proofs.PutSteps.{Here, here, Changed, changed, IsPut, put-lane, few-frames, unit-room, framed, length-unit, short-lane}
 use Rattle.xv_streams.proofs.Zips.{length-seen, as-many}
 use Rattle.xv_streams.proofs.streams.Streams.send.Goals as goal
@@ -136,7 +138,15 @@ invariant_of-self g c =
     put-lane s.layout s.format fr (is_err c.put_frame.result) (told w) (told c.put_frame.new.wire) (faults w) (faults c.put_frame.new.wire) l c.put_frame.new.lane c.self.invariant.good at.lane good (sym format) fits made c.put_frame.ensures.counted in
     let done : Changed told faults s.layout s.format ws ls c.args.stream c.put_frame.new.wire c.put_frame.new.lane =
     changed told faults s.layout s.format ws ls c.args.stream c.put_frame.new.wire c.put_frame.new.lane c.self.invariant.lanes at.there is.lane in
-    (done.lanes, c.self.invariant.good, ap length (take_at c.encode_unit-size.new.into (drop (length c.encode_unit-size.new.into) s.frame.items) s.frame.len kept) ∙ kept ∙ s.frame.ok.0 ∙ c.self.invariant.room)
+    let next : List ℕ = take s.frame.len (c.encode_unit-size.new.into ++ drop (length c.encode_unit-size.new.into) s.frame.items) in
+    record {
+      lanes = done.lanes;
+      good = c.self.invariant.good;
+      room = ap length (take_at c.encode_unit-size.new.into (drop (length c.encode_unit-size.new.into) s.frame.items) s.frame.len kept) ∙ kept ∙ s.frame.ok.0 ∙ c.self.invariant.room;
+      formats = c.self.invariant.formats;
+      making = (none-made s.layout s.format s.count s.end s.frame.items next c.self.invariant.making format).0;
+      got = c.self.invariant.got;
+    }
 
 pub returns-clause-others : goal.returns-clause-others
 returns-clause-others g c =
@@ -165,9 +175,11 @@ returns-clause-others g c =
     put-lane s.layout s.format fr (is_err c.put_frame.result) (told w) (told c.put_frame.new.wire) (faults w) (faults c.put_frame.new.wire) l c.put_frame.new.lane c.self.invariant.good at.lane good (sym format) fits made c.put_frame.ensures.counted in
     let done : Changed told faults s.layout s.format ws ls c.args.stream c.put_frame.new.wire c.put_frame.new.lane =
     changed told faults s.layout s.format ws ls c.args.stream c.put_frame.new.wire c.put_frame.new.lane c.self.invariant.lanes at.there is.lane in
-    subst (λ (v : Streamed). record { shape = s.layout; format = s.format; lanes = seen_lanes told faults s.layout (set ws c.args.stream c.put_frame.new.wire) (set ls c.args.stream c.put_frame.new.lane) }
+    let next : List ℕ = take s.frame.len (c.encode_unit-size.new.into ++ drop (length c.encode_unit-size.new.into) s.frame.items) in
+    let same : messages_in s.layout s.count next ≡ messages_in s.layout s.count s.frame.items = (none-made s.layout s.format s.count s.end s.frame.items next c.self.invariant.making format).1 in
+    subst (λ (v : Streamed). record { shape = s.layout; format = s.format; lanes = seen_lanes told faults s.layout (set ws c.args.stream c.put_frame.new.wire) (set ls c.args.stream c.put_frame.new.lane); making = messages_in s.layout s.count next; got = s.received.messages }
     ≡ record v { lanes = set v.lanes c.args.stream (get_or (seen_lanes told faults s.layout (set ws c.args.stream c.put_frame.new.wire) (set ls c.args.stream c.put_frame.new.lane)) c.args.stream no_lane) }) c.self.view_is
-    (ap (λ (xs : List LaneSeen). record { shape = s.layout; format = s.format; lanes = xs }) done.only)
+    (λ i. record { shape = s.layout; format = s.format; lanes = done.only i; making = same i; got = s.received.messages })
 
 pub returns-clause-put : goal.returns-clause-put
 returns-clause-put g c =
