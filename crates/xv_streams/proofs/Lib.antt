@@ -10,3 +10,4 @@ pub mod BackSteps
 pub mod EntrySteps
 pub mod Carries
 pub mod MakingSteps
+pub mod GroupSteps

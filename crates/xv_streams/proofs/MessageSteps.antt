@@ -21,7 +21,7 @@ use Rattle.xv_streams.specs.Streamed.{messages_of, IsLaneOf, seen_lane, MessageT
 use Rattle.xv_streams.proofs.LaneSteps.{Whole, whole-frame, no-frame}
 
 -- the takes by what is left in transit
-made-seen : (s : Shape) (old new : List ℕ) (failed : Bool) (t u : Told) (f g : ℕ) → FrameTaken s old new failed t u f g
+pub made-seen : (s : Shape) (old new : List ℕ) (failed : Bool) (t u : Told) (f g : ℕ) → FrameTaken s old new failed t u f g
     → TakesMade (length t.transit - length u.transit) failed (wanted (frames_in s (old ++ t.transit)) (length old)) t u f g
 made-seen s old new failed t u f g h =
     let same : length new - length old ≡ length t.transit - length u.transit = omega (arith, ap length h.moved, length-append new u.transit, length-append old t.transit, h.grown) in
@@ -39,7 +39,7 @@ receive-failed s e content l m t u f g is h = record {
   made = made-seen s l.bytes m.bytes true t u f g h;
 }
 
-none-left : (b : List ℕ) → length b ≡ 0 → b ≡ []
+pub none-left : (b : List ℕ) → length b ≡ 0 → b ≡ []
 none-left [] e = refl
 none-left (x ∷ b) e = absurd (omega arith)
 
