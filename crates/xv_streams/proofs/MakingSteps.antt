@@ -8,7 +8,7 @@ use Rattle.xv_base.specs.Units.{Shape, max_size}
 use Rattle.xv_base.specs.Layout.{IsGood}
 use Rattle.xv_frame.specs.Frame.{Message, Frame, GroupFrame, Each, IsFrame, IsMessage, IsGroup, group_head, entry, entries, spelled}
 use Rattle.xv_frame.specs.Reading.{front_entries}
-use Rattle.xv_frame.proofs.Accepted.{entries-back}
+use Rattle.xv_frame.proofs.Accepted.{entries-back, length-entries}
 use Rattle.xv_frame.proofs.ReadHeads.{length-group-head}
 use Rattle.xv_streams.specs.Streamed.{frame_room}
 use Rattle.xv_streams.specs.Carried.{IsMade}
@@ -122,3 +122,7 @@ made-is s format count end frame g h = record {
   each = h.each;
   few_bytes = λ some. group-fits s (messages_in s count frame) g h.each some;
 }
+
+pub end-small : (s : Shape) (format count end : ℕ) (frame : List ℕ) → IsGood s → IsMaking s format count end frame → end ≤ 65880
+end-small s format count end frame g h =
+    omega (arith, h.ends, h.few, many-made s count frame, length-entries s (messages_in s count frame) g h.each)
