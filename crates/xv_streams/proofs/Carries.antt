@@ -1,14 +1,14 @@
 -- What a lane carries: its bytes are the spellings of the frames of its groups.
-use Rattle.std.proofs.Common.{◌≡◌, ℕ, zero, suc, ◌+◌, ◌*◌, ◌<◌, ◌≤◌, List, [], ◌∷◌, ◌++◌, length, get_or, map, sym, ap, ◌∙◌, arith, refl, subst, Bool, true, false, eqb, length-append}
+use Rattle.std.proofs.Common.{◌≡◌, ℕ, zero, suc, ◌+◌, ◌*◌, ◌<◌, ◌≤◌, List, [], ◌∷◌, ◌++◌, length, get_or, map, sym, ap, ◌∙◌, arith, refl, subst, Bool, true, false, length-append}
 use Rattle.std.specs.Prelude.{if◌then◌else◌}
-use Rattle.std.specs.List.{flat_map, sum_by}
+use Rattle.std.specs.List.{sum_by}
 use Rattle.std.proofs.Math.Nat.{mul-add, add-mul}
 use Rattle.std.proofs.lemmas.List.Concat.{length-flat_map}
-use Rattle.xv_base.specs.Units.{Shape, size, max_size}
+use Rattle.xv_base.specs.Units.{Shape, max_size}
 use Rattle.xv_base.specs.Layout.{IsGood}
 use Rattle.xv_base.proofs.Partition.{has_greatest_size}
 use Rattle.xv_frame.specs.Fields.{all_zero}
-use Rattle.xv_frame.specs.Frame.{Message, message, Frame, UnitFrame, AckFrame, GroupFrame, Each, IsFrame, IsMessage, IsGroup, unit_head, group_head, entry_head, entry, entries, spelled, all_spelled}
+use Rattle.xv_frame.specs.Frame.{Message, Frame, UnitFrame, AckFrame, GroupFrame, Each, IsFrame, IsMessage, unit_head, group_head, entry_head, entry, entries, spelled, all_spelled}
 use Rattle.xv_frame.specs.Reading.{frames_in}
 use Rattle.xv_frame.proofs.ReadHeads.{length-unit-head, length-group-head, length-entry-head}
 use Rattle.xv_wire.specs.Told.{Told}

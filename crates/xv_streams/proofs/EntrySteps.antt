@@ -57,7 +57,7 @@ read-more places i p m ms rest b is kept left =
     let seen : List Message = map (λ (q : Place). q.message) places in
     let there : i < length seen = omega (arith, length-map places (λ (q : Place). q.message)) in (
       ap (take (i + 1)) (map-set (λ (q : Place). q.message) places i p) ∙ take_more_set seen i p.message there ∙ (λ k. kept k ++ is k ∷ [])
-      ∙ ap (λ xs. take i ms ++ take 1 xs) left ∙ sym (take-add i 1 ms),
+          ∙ ap (λ xs. take i ms ++ take 1 xs) left ∙ sym (take-add i 1 ms),
       ap (drop 1) left ∙ drop-drop 1 i ms,
     )
 

@@ -1,7 +1,6 @@
 -- A group taken off a lane of groups.
-use Rattle.std.proofs.Common.{◌≡◌, ℕ, ◌+◌, ◌-◌, ◌<◌, ◌≤◌, List, [], ◌∷◌, ◌++◌, length, drop, map, sym, ap, ◌∙◌, arith, refl, subst, Bool, true, false, Option, Some, None, Ok, Err}
+use Rattle.std.proofs.Common.{◌≡◌, ℕ, ◌-◌, ◌<◌, List, [], ◌∷◌, ◌++◌, length, drop, map, sym, ap, ◌∙◌, arith, refl, subst, false, Option, Some, None, Ok}
 use Rattle.std.proofs.lemmas.List.{append-nil}
-use Rattle.xv_base.specs.declared.unit.Failed.{Failed}
 use Rattle.xv_base.specs.Units.{Shape}
 use Rattle.xv_base.specs.Layout.{IsGood}
 use Rattle.xv_frame.specs.Fields.{short_at}
@@ -15,8 +14,8 @@ use Rattle.xv_wire.specs.Told.{Told}
 use Rattle.xv_streams.specs.Gathered.{Gathered}
 use Rattle.xv_streams.specs.Lanes.{FrameTaken}
 use Rattle.xv_streams.specs.Streamed.{messages_of, IsLaneOf, seen_lane, GroupTaken, first_group}
-use Rattle.xv_streams.proofs.LaneSteps.{Whole, whole-frame, no-frame}
-use Rattle.xv_streams.proofs.MessageSteps.{made-seen, none-left}
+use Rattle.xv_streams.proofs.LaneSteps.{Whole, whole-frame}
+use Rattle.xv_streams.proofs.MessageSteps.{made-seen}
 
 -- the first frame is a group
 pub record FirstGroup (s : Shape) (l : Gathered) (t u : Told) (new : List ℕ) : Type 0 where

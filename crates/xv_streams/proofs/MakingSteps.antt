@@ -1,12 +1,12 @@
 -- The group that is being made: one message more, its frame, and none any more.
 use Rattle.std.proofs.Common.{◌≡◌, ℕ, zero, suc, ◌+◌, ◌-◌, ◌*◌, ◌<◌, ◌≤◌, List, [], ◌∷◌, ◌++◌, length, take, drop, sym, ap, ◌∙◌, arith, refl, subst, append_assoc, length-append}
 use Rattle.std.proofs.Math.Nat.{mul-le-mul_right}
-use Rattle.std.proofs.lemmas.List.{take_at, drop_at, drop-append-le, drop-take, append-nil, length-take, take-append-le, length_push}
-use Rattle.std.proofs.Math.Seq.{take-append-add, take-add}
+use Rattle.std.proofs.lemmas.List.{take_at, drop-append-le, drop-take, append-nil, length-take, length_push}
+use Rattle.std.proofs.Math.Seq.{take-append-add}
 use Rattle.std.proofs.lemmas.List.Concat.{flat_map-append}
 use Rattle.xv_base.specs.Units.{Shape, max_size}
 use Rattle.xv_base.specs.Layout.{IsGood}
-use Rattle.xv_frame.specs.Frame.{Message, Frame, GroupFrame, Each, IsFrame, IsMessage, IsGroup, group_head, entry, entries, spelled}
+use Rattle.xv_frame.specs.Frame.{Message, GroupFrame, Each, IsFrame, IsMessage, group_head, entry, entries, spelled}
 use Rattle.xv_frame.specs.Reading.{front_entries}
 use Rattle.xv_frame.proofs.Accepted.{entries-back, length-entries}
 use Rattle.xv_frame.proofs.ReadHeads.{length-group-head}

@@ -1,8 +1,7 @@
-use Rattle.std.proofs.Common.{◌≡◌, ◌+◌, ◌-◌, ◌<◌, ◌≤◌, ℕ, List, ◌∷◌, length, take, drop, map, get_or, sym, ap, ◌∙◌, arith, subst, None}
+use Rattle.std.proofs.Common.{◌≡◌, ◌+◌, ◌-◌, ◌<◌, ℕ, length, take, drop, map, sym, ap, ◌∙◌, arith}
 use Rattle.std.proofs.lemmas.List.{take_rest, drop-drop, length-drop}
 use Rattle.std.proofs.Math.Seq.{take-length}
 use Rattle.xv_base.specs.Units.{max_size}
-use Rattle.xv_frame.specs.Frame.{Message}
 use Rattle.xv_frame.specs.Faults.{entry_fault, entries_fault}
 use Rattle.xv_frame.specs.Reading.{entry_message, entry_size, front_entries}
 use Rattle.xv_streams.specs.Groups.{Place}

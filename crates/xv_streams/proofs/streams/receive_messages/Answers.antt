@@ -1,11 +1,10 @@
-use Rattle.std.proofs.Common.{◌≡◌, ℕ, ◌-◌, ◌<◌, List, [], length, map, sym, ap, ◌∙◌, subst, arith, false, Ok}
+use Rattle.std.proofs.Common.{◌≡◌, ◌-◌, ◌<◌, [], length, sym, ap, ◌∙◌, subst, arith, Ok}
 use Rattle.std.proofs.lemmas.Bool.{ltb-true}
 use Rattle.xv_frame.specs.Faults.{group_fault}
-use Rattle.xv_frame.specs.Frame.{Message, Each, IsMessage}
+use Rattle.xv_frame.specs.Frame.{Each, IsMessage}
 use Rattle.xv_frame.specs.Reading.{front_group}
 use Rattle.xv_streams.specs.Gathered.{Gathered}
 use Rattle.xv_streams.specs.Groups.{Received, IsReceived}
-use Rattle.xv_streams.specs.Lanes.{FrameTaken}
 use Rattle.xv_streams.specs.Streamed.{IsLaneOf, seen_lane, GroupTaken}
 use Rattle.xv_streams.proofs.MessageSteps.{taken-off}
 use Rattle.xv_streams.proofs.GroupSteps.{FirstGroup, first-of, seen-first, group-some}

@@ -1,4 +1,4 @@
-use Rattle.std.proofs.Common.{◌≡◌, ◌≤◌, ◌++◌, ℕ, length, take, drop, replicate, sym, ap, ◌∙◌, arith, subst}
+use Rattle.std.proofs.Common.{◌≡◌, ◌≤◌, length, take, drop, replicate, sym, ap, ◌∙◌, arith, subst}
 use Rattle.std.proofs.lemmas.List.{with_items_is, take_at, length-replicate}
 use Rattle.std.specs.Vec.{with_items}
 use Rattle.xv_frame.specs.Frame.{message}

@@ -1,8 +1,8 @@
-use Rattle.std.proofs.Common.{◌≡◌, ◌+◌, ◌-◌, ◌≤◌, ℕ, List, length, take, drop, replicate, sym, ap, ◌∙◌, arith, false, Bool}
+use Rattle.std.proofs.Common.{◌≡◌, ◌+◌, ◌-◌, ◌≤◌, take, drop, replicate, sym, ap, ◌∙◌, arith, false, Bool}
 use Rattle.std.specs.Prelude.{if◌then◌else◌}
 use Rattle.std.proofs.lemmas.List.{length-take}
 use Rattle.xv_base.specs.declared.operation.UnitHead.{UnitHead}
-use Rattle.xv_base.specs.Units.{max_size, size}
+use Rattle.xv_base.specs.Units.{size}
 use Rattle.xv_base.proofs.Partition.{has_greatest_size}
 use Rattle.xv_frame.specs.Frame.{message}
 use Rattle.xv_frame.specs.Fields.{word_at}

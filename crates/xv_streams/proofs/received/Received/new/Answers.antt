@@ -1,4 +1,4 @@
-use Rattle.std.proofs.Common.{◌≡◌, ℕ, [], map, replicate, ap, ◌∙◌}
+use Rattle.std.proofs.Common.{◌≡◌, [], map, replicate, ap, ◌∙◌}
 use Rattle.xv_streams.specs.Groups.{Place}
 use Rattle.xv_streams.proofs.EntrySteps.{rooms-of}
 use Rattle.xv_streams.proofs.received.Received.new.Goals as goal

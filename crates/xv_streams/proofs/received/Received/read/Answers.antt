@@ -1,11 +1,9 @@
-use Rattle.std.proofs.Common.{◌≡◌, ◌≤◌, ℕ, List, length, take, drop, map, get_or, sym, ap, ◌∙◌, arith, subst, None}
+use Rattle.std.proofs.Common.{◌≡◌, ◌≤◌, List, take, drop, map, sym, ap, ◌∙◌, arith, subst}
 use Rattle.std.specs.Prelude.{All}
 use Rattle.std.specs.Vec.{with_items}
 use Rattle.std.proofs.lemmas.List.{with_items_is, length-map, get_or-map, take_rest}
 use Rattle.xv_base.specs.Units.{max_size}
-use Rattle.xv_frame.specs.Frame.{Message}
 use Rattle.xv_frame.specs.Fields.{short_at}
-use Rattle.xv_frame.specs.Faults.{entries_fault}
 use Rattle.xv_frame.specs.Reading.{front_entries, front_group}
 use Rattle.xv_streams.specs.Groups.{Place, Received}
 use Rattle.xv_streams.proofs.EntrySteps.{length-front}

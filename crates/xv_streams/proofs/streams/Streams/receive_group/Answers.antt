@@ -1,7 +1,7 @@
-use Rattle.std.proofs.Common.{◌≡◌, ℕ, ◌<◌, ◌≤◌, List, length, get_or, set, sym, ap, subst, arith}
+use Rattle.std.proofs.Common.{◌≡◌, ℕ, ◌<◌, List, length, get_or, set, sym, subst, arith}
 use Rattle.std.specs.Prelude.{is_err}
 use Rattle.xv_frame.specs.Frame.{Message}
-use Rattle.xv_streams.specs.Groups.{messages_in, Received, IsReceived}
+use Rattle.xv_streams.specs.Groups.{messages_in, IsReceived}
 use Rattle.xv_streams.specs.Streamed.{Streamed, LaneSeen, IsLaneOf, lane, seen_lanes, seen_lane, no_lane, GroupTaken, lent}
 use Rattle.xv_streams.proofs.PutSteps.{Here, here, Changed, changed}
 use Rattle.xv_streams.proofs.Zips.{length-seen, as-many}
