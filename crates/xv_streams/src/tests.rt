@@ -190,7 +190,10 @@ fn passes_groups_in_any_pieces(rt: HostRuntime) -> Result<(), Fail> {
             assert_eq!(rt; send_some(&mut streams, 0, 0, count), Ok(()), "of {count}");
             assert_eq!(rt; send_some(&mut streams, 1, 16, 2), Ok(()));
             assert_eq!(rt; streams.waiting(0), 1);
-            assert!(rt; gives_some(&mut streams, 0, 0, count), "in pieces of {piece}");
+            assert!(rt;
+                gives_some(&mut streams, 0, 0, count),
+                "in pieces of {piece}"
+            );
             assert!(rt; gives_some(&mut streams, 0, 0, 0));
             assert_eq!(rt; streams.receive_group(1), Err(Failed));
             assert!(rt; gives_some(&mut streams, 1, 16, 2));
