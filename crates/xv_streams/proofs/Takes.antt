@@ -137,6 +137,7 @@ pub taking-ends : (n want : ℕ) (b : Bool) (t now next : Told) (f g k : ℕ) �
 taking-ends n want b t now next f g k h below there made = record {
   told = made.told ∙ ap (told_after (TakeBytes 0) b) h.told ∙ told-add n 0 b t ∙ (let e : n + 0 ≡ n = omega arith in ap (λ j. told_after (TakeBytes j) b t) e);
   planned = with-want want b t (omega arith) (whether 0 n want b t now f g h below there made.planned);
+  early = λ _. below;
   caused = record { cause = omega (arith, h.never_falls, made.caused.cause); never_falls = omega (arith, h.never_falls, made.caused.never_falls) };
 }
 
@@ -153,6 +154,7 @@ taking-enough n want t now f g h e = record {
     | inr none ↦ map-some (λ c. AreOfOnePiece want t c → 0 < n → is_planned (TakeBytes 0) t.transit c ≡ false) (λ c. AreOfOnePiece want t c → false ≡ (nat_lt 0 want && is_planned (TakeBytes 0) t.transit c)) t.counted
         (λ c p. λ one. ap (λ k. k && is_planned (TakeBytes 0) t.transit c) (sym (le-ltb 0 want none))) h.planned
   ];
+  early = λ is. absurd (false≢true is);
   caused = record { cause = omega (arith, h.never_falls); never_falls = h.never_falls };
 }
 
@@ -202,6 +204,7 @@ takes-after n m want b t now next f g k h there le made = record {
         subst (λ (w : ℕ). IfSome t.counted (λ c. AreOfOnePiece w t c → b ≡ (nat_lt 0 w && is_planned (TakeBytes 0) t.transit c))) all
         (subst (λ (s : Told). IfSome s.counted (λ c. AreOfOnePiece (want - n) s c → b ≡ (nat_lt 0 (want - n) && is_planned (TakeBytes 0) s.transit c))) same made.planned)
   ];
+  early = λ is. omega (arith, made.early is);
   caused = record { cause = omega (arith, h.never_falls, made.caused.cause); never_falls = omega (arith, h.never_falls, made.caused.never_falls) };
 }
 
@@ -211,6 +214,7 @@ failed-of-more n want more t now f g h le = record {
   told = h.told;
   planned = map-some (λ c. AreOfOnePiece want t c → true ≡ (nat_lt 0 want && is_planned (TakeBytes 0) t.transit c)) (λ c. AreOfOnePiece more t c → true ≡ (nat_lt 0 more && is_planned (TakeBytes 0) t.transit c)) t.counted
       (λ c p. λ one. wider (cases_lt 0 want) (is_planned (TakeBytes 0) t.transit c) (p (λ there. omega (arith, one there)))) h.planned;
+  early = λ is. omega (arith, h.early is);
   caused = h.caused;
 }
   where

@@ -5,3 +5,4 @@ pub mod Streamed
 pub mod Carried
 pub mod Groups
 pub mod Returned
+pub mod Fronts

@@ -1,5 +1,5 @@
 -- What is seen of the wire back.
-use Rattle.std.specs.Prelude.{◌≡◌, ℕ, ◌≤◌, List, [], ◌∷◌, ◌++◌, ◌+◌, ◌-◌, ◌*◌, length, map, drop, Bool, Option, Some, None, Result, IfOk, IfErr, IfSome, is_err, if◌then◌else◌}
+use Rattle.std.specs.Prelude.{◌≡◌, ℕ, ◌≤◌, List, [], ◌∷◌, ◌++◌, ◌+◌, ◌-◌, ◌*◌, length, map, drop, Bool, true, false, Option, Some, None, Result, IfOk, IfErr, IfSome, is_err, if◌then◌else◌}
 use Rattle.xv_base.specs.Units.{Shape, shape_of}
 use Rattle.xv_base.specs.declared.unit.Failed.{Failed}
 use Rattle.xv_frame.specs.Frame.{Frame, UnitFrame, AckFrame, GroupFrame, Each, spelled, all_spelled}
@@ -66,3 +66,10 @@ pub record AreCarried (r : Returned) : Type 0 where
   pub stand : r.gathered ++ r.wire.transit ≡ all_spelled (map AckFrame r.counts)
   pub counts : Each (λ n. (1 ≤ n) × (n ≤ 1024)) r.counts
   pub bytes : length r.gathered + length r.wire.transit ≡ 24 * length r.counts
+
+-- the first count was taken off, or a take failed and what is gathered stays, whatever was answered
+pub record TakesFirst (failed : Bool) (old new : Returned) : Type 0 where
+  pub counts : new.counts ≡ (if failed then old.counts else drop 1 old.counts)
+  pub gathered : failed ≡ false → new.gathered ≡ []
+  pub kept : failed ≡ true → new.gathered ++ new.wire.transit ≡ old.gathered ++ old.wire.transit
+  pub made : TakesMade (length old.wire.transit - length new.wire.transit) failed (ack_left (length old.gathered)) old.wire new.wire old.faults new.faults

@@ -1,5 +1,5 @@
 -- Some takes of a wire, one after another, seen as one.
-use Rattle.std.specs.Prelude.{◌≡◌, ℕ, ◌<◌, ◌≤◌, Bool, ◌&&◌, false, nat_lt, List, [], ◌∷◌, length, IfSome}
+use Rattle.std.specs.Prelude.{◌≡◌, ℕ, ◌<◌, ◌≤◌, Bool, ◌&&◌, true, false, nat_lt, List, [], ◌∷◌, length, IfSome}
 use Rattle.xv_wire.specs.Wire.{TakeBytes, Counted, is_planned}
 use Rattle.xv_wire.specs.Told.{Told, told_after, Caused}
 
@@ -12,11 +12,12 @@ first_left (p ∷ ps) = p
 abbrev pub AreOfOnePiece : ℕ → Told → Counted → Type 0
 AreOfOnePiece want t c = 0 < length t.transit → want ≤ first_left c.left
 
--- of so many bytes wanted these were taken, until that was enough, none were left, or a take failed; where they are of one
--- piece it failed by the plan of the first take
+-- of so many bytes wanted these were taken, until that was enough, none were left, or a take failed before it was enough;
+-- where they are of one piece it failed by the plan of the first take
 pub record TakesMade (n : ℕ) (failed : Bool) (want : ℕ) (before later : Told) (faults more : ℕ) : Type 0 where
   pub told : later ≡ told_after (TakeBytes n) failed before
   pub planned : IfSome before.counted (λ c. AreOfOnePiece want before c → failed ≡ (nat_lt 0 want && is_planned (TakeBytes 0) before.transit c))
+  pub early : failed ≡ true → n < want
   pub caused : Caused failed faults more
 
 -- takes that go on: so many bytes were taken of those that are wanted
