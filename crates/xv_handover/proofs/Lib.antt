@@ -1,1 +1,4 @@
+pub mod Progress
+pub mod Sayings
+pub mod Scripts
 pub mod Sound

@@ -15,8 +15,11 @@ mod message;
 mod node_a;
 mod node_b;
 mod play;
+mod print;
+mod read;
 #[cfg(test)]
 mod tests;
+mod word;
 mod world;
 
 pub use keeper::Keeper;
@@ -27,4 +30,6 @@ pub use message::{Kind, Message, Reply};
 pub use node_a::NodeA;
 pub use node_b::NodeB;
 pub use play::play_world;
+pub use print::{print_reply, print_world};
+pub use read::read_world;
 pub use world::{World, WorldEvent};
