@@ -19,12 +19,17 @@ mod print;
 mod read;
 #[cfg(test)]
 mod tests;
+#[cfg(test)]
+mod text_tests;
 mod word;
 mod world;
 
 pub use keeper::Keeper;
 pub use kept::{KeptA, KeptB, Stage};
-pub use laws::{messages_stay_true, never_two_owners, owner_has_the_offered_number};
+pub use laws::{
+    aborts_have_number_zero, messages_stay_true, never_two_owners, no_event_fails,
+    owner_has_the_offered_number, pass_waits_for_its_message,
+};
 pub use memory::MemKeeper;
 pub use message::{Kind, Message, Reply};
 pub use node_a::NodeA;
