@@ -1,11 +1,10 @@
 -- The lines of a handover's script one by one: what fields say, and by which fields each event is said.
-use Rattle.std.proofs.Common.{◌≡◌, ℕ, zero, suc, ◌<◌, ◌^◌, Bool, true, false, List, [], ◌∷◌, ◌++◌, codes, decimal, nat_lt, Option, Some, None, refl, sym, ap, ◌∙◌, subst, arith, inl, inr, lt-ltb, ltb-true, if◌then◌else◌}
+use Rattle.std.proofs.Common.{◌≡◌, ℕ, zero, suc, ◌<◌, ◌^◌, Bool, true, List, [], ◌∷◌, ◌++◌, codes, decimal, nat_lt, Option, Some, None, refl, sym, ap, ◌∙◌, subst, arith, inl, inr, lt-ltb, ltb-true}
 use Rattle.std.specs.List.{find}
 use Rattle.std.specs.Cmp.Lexicographic.{same_text}
 use Rattle.std.proofs.lemmas.Bool.{cases_Bool}
-use Rattle.xv_base.specs.declared.text.LineWhy.TheVariants.{BadWord}
 use Rattle.xv_text.specs.Lines.{line}
-use Rattle.xv_text.specs.Fields.{values, number_at, fields_fault}
+use Rattle.xv_text.specs.Fields.{number_at}
 use Rattle.xv_text.specs.declared.row.Kind.TheVariants.{Number}
 use Rattle.xv_text.proofs.Apart.{IsPlain, ArePlain, decimal_plain}
 use Rattle.xv_text.proofs.Numbers.{number-decimal}
@@ -13,7 +12,7 @@ use Rattle.xv_text.proofs.Rows.{values_row}
 use Rattle.xv_text.proofs.Spelled.{spelled-values, fields_fault-spelled}
 use Rattle.xv_handover.specs.Lines.{event_words}
 use Rattle.xv_handover.specs.Words.{is_spelled, spelling, words, word_of, node_name, node_of, node_in, node_fault, number_fault, number_in, alone_fault, args_fault, at_node, event_said}
-use Rattle.xv_handover.specs.Script.{event_number, is_written}
+use Rattle.xv_handover.specs.Script.{is_written}
 use Rattle.xv_handover.specs.declared.word.Word.{Word}
 use Rattle.xv_handover.specs.declared.word.Word.TheVariants.{Write as WriteWord, Image as ImageWord, Offer as OfferWord, Withdraw as WithdrawWord, Resend as ResendWord, Restart as RestartWord, Pass as PassWord, Stop as StopWord}
 use Rattle.xv_handover.specs.declared.word.NodeName.{NodeName}

@@ -1,5 +1,5 @@
 -- A text without a fault is the text of a script, and such a text is read as this script.
-use Rattle.std.proofs.Common.{◌≡◌, ◌≢◌, ℕ, ◌+◌, ◌<◌, ◌≤◌, ◌&&◌, Bool, true, false, List, [], ◌∷◌, ◌++◌, length, length-append, codes, Option, Some, None, Result, Ok, Err, IfOk, refl, sym, ap, ◌∙◌, subst, arith, append_assoc, nat_le}
+use Rattle.std.proofs.Common.{◌≡◌, ◌≢◌, ℕ, ◌+◌, ◌<◌, ◌≤◌, Bool, true, false, List, [], ◌∷◌, ◌++◌, length, length-append, codes, Option, Some, None, Result, Ok, Err, IfOk, refl, sym, ap, ◌∙◌, subst, arith, append_assoc, nat_le}
 use Rattle.std.specs.List.{list_all}
 use Rattle.std.proofs.lemmas.Bool.{and_from, and_parts, leb-false, lt-leb}
 use Rattle.std.proofs.lemmas.List.{append-nil}
@@ -18,7 +18,7 @@ use Rattle.xv_handover.specs.Script.{first_script, event_limit, limit_fault, wor
 use Rattle.xv_handover.specs.declared.word.Word.{Word}
 use Rattle.xv_handover.specs.declared.world.WorldEvent.{WorldEvent}
 use Rattle.xv_handover.proofs.Progress.{so_far, stopped}
-use Rattle.xv_handover.proofs.Sayings.{event_fields, said_fields, said_written, line-event_fields, IsSaid, word_sound, IsSpelt, event_spelt, stop_spelt}
+use Rattle.xv_handover.proofs.Sayings.{event_fields, said_fields, said_written, line-event_fields, word_sound, IsSpelt, event_spelt, stop_spelt}
 
 -- the text of what a line says
 abbrev text_said : Option WorldEvent → List ℕ

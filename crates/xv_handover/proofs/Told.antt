@@ -1,13 +1,12 @@
 -- An event never fails, and a pass waits exactly where its message was not sent.
-use Rattle.std.proofs.Common.{◌≡◌, ◌≢◌, ◌<◌, ◌≤◌, ◌&&◌, ◌||◌, ℕ, Bool, true, false, List, [], ◌∷◌, length, Option, None, Some, slice_get, if◌then◌else◌, refl, sym, ap, ◌∙◌, inl, inr, arith}
+use Rattle.std.proofs.Common.{◌≡◌, ◌≢◌, ◌≤◌, ◌&&◌, ◌||◌, ℕ, Bool, true, false, List, [], ◌∷◌, length, Option, None, Some, slice_get, if◌then◌else◌, sym, ap, ◌∙◌, inl, inr, arith}
 use Rattle.std.specs.Prelude.{All, ◌↔◌}
 use Rattle.std.proofs.lemmas.List.Elements.{All-nil, All-cons}
 use Rattle.std.proofs.lemmas.Option.{slice_get_cases}
 use Rattle.xv_handover.specs.declared.message.Message.{Message}
 use Rattle.xv_handover.specs.declared.message.Kind.{Kind}
 use Rattle.xv_handover.specs.declared.message.Kind.TheVariants.{Prepare, Ready, Commit, Abort}
-use Rattle.xv_handover.specs.declared.message.Reply.{Reply}
-use Rattle.xv_handover.specs.declared.message.Reply.TheVariants.{Done, NotNow, Failed}
+use Rattle.xv_handover.specs.declared.message.Reply.TheVariants.{NotNow, Failed}
 use Rattle.xv_handover.specs.declared.kept.KeptB.{KeptB}
 use Rattle.xv_handover.specs.declared.world.WorldEvent.{WorldEvent}
 use Rattle.xv_handover.specs.declared.world.WorldEvent.TheVariants.{WriteA, WriteB, Image, Offer, Withdraw, ResendA, ResendB, RestartA, RestartB, Pass}

@@ -1,5 +1,5 @@
 -- The text of a handover's script, and what is printed for it: each event with its answer, then both nodes.
-use Rattle.std.specs.Prelude.{ℕ, Bool, true, false, List, [], ◌∷◌, ◌++◌, codes, decimal, Option, None, Some}
+use Rattle.std.specs.Prelude.{ℕ, Bool, true, false, List, [], ◌∷◌, ◌++◌, codes, decimal, None, Some}
 use Rattle.xv_handover.specs.declared.message.Message.{Message}
 use Rattle.xv_handover.specs.declared.message.Kind.{Kind}
 use Rattle.xv_handover.specs.declared.message.Kind.TheVariants.{Prepare, Ready, Commit, Abort}

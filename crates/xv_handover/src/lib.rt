@@ -5,6 +5,8 @@
 // as whether it has offered. The layer above may rely on this: each call of a node does what its table says, or
 // changes nothing; over every list of calls, deliveries and restarts the two nodes never both own the guest; and when
 // node B becomes the owner its number is that of node A's offer. That a handover is ever decided is not promised.
+// A script's text is read as the one list of events that it spells, or refused by its first faulty line; the lines of
+// the answers are stated functions of the events, their answers and the nodes.
 #![tactic(auto)]
 
 mod keeper;
