@@ -1,5 +1,5 @@
 -- An event never fails, and a pass waits exactly where its message was not sent.
-use Rattle.std.proofs.Common.{◌≡◌, ◌≢◌, ◌≤◌, ◌&&◌, ◌||◌, ℕ, Bool, true, false, List, [], ◌∷◌, length, Option, None, Some, slice_get, if◌then◌else◌, sym, ap, ◌∙◌, inl, inr, arith}
+use Rattle.std.proofs.Common.{◌≡◌, ◌≢◌, ◌≤◌, ◌&&◌, ◌||◌, ℕ, Bool, true, false, List, [], ◌∷◌, length, Option, None, Some, slice_get, if◌then◌else◌, refl, sym, ap, ◌∙◌, inl, inr, arith}
 use Rattle.std.specs.Prelude.{All, ◌↔◌}
 use Rattle.std.proofs.lemmas.List.Elements.{All-nil, All-cons}
 use Rattle.std.proofs.lemmas.Option.{slice_get_cases}
@@ -68,3 +68,8 @@ pass_waits w number = elim (slice_get_cases w.sent number).1 [
       (λ waits. absurd (node_takes w there.0.kind there.0 (sym found ∙ waits)), λ past. absurd (let within = there.1 in omega arith))
   | inr past ↦ (λ _. past.0, λ _. ap (λ (o : Option Message). (delivered w o).1) past.1)
 ]
+
+-- each event has one answer
+pub length-replies : (w : Both) (es : List WorldEvent) → length (replies w es) ≡ length es
+length-replies w [] = refl
+length-replies w (e ∷ es) = omega (arith, length-replies (step w e).0 es)

@@ -5,6 +5,8 @@
 // migration that ran is handed out.
 #![tactic(auto)]
 
+mod command;
+mod handover;
 mod input;
 mod output;
 mod playing;
