@@ -1,6 +1,6 @@
 -- What the answers of the top call mean.
 use Rattle.std.specs.Prelude.{◌≡◌, ◌⊎◌, ℕ, ◌+◌, true, List, take, Option, Some, None, IfSome, ⊤}
-use Rattle.xv_io.specs.Io.{IsAtEnd, GaveAtLeast, TookMore, TookFront}
+use Rattle.xv_io.specs.Io.{GaveAtLeast, TookMore, TookFront}
 use Rattle.xv_base.specs.declared.text.LineFault.{LineFault}
 use Rattle.xv_base.specs.declared.text.LineWhy.TheVariants.{Limit}
 use Rattle.xv_model.specs.Job.{Job}

@@ -1,4 +1,4 @@
-use Rattle.std.proofs.Common.{◌≡◌, ◌+◌, ◌∷◌, [], ◌++◌, length, List, ℕ, subst, sym, ◌∙◌, arith}
+use Rattle.std.proofs.Common.{length, List, ℕ, subst, sym, ◌∙◌, arith}
 use Rattle.std.proofs.lemmas.List.{length_push}
 use Rattle.std.proofs.lemmas.Slice.Zip.{zip_turn}
 use Rattle.xv_io.specs.Io.{TookMore, TookFront}

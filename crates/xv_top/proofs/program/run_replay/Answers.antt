@@ -1,4 +1,4 @@
-use Rattle.std.proofs.Common.{List, refl, sym, subst, inr}
+use Rattle.std.proofs.Common.{List, refl, sym, subst}
 use Rattle.std.specs.Prelude.{IfSome}
 use Rattle.xv_job.specs.Written.{job_of}
 use Rattle.xv_script.specs.Script.{IsScriptOf}
