@@ -4,3 +4,6 @@ pub mod Answers
 pub mod World
 pub mod Safe
 pub mod Play
+pub mod Lines
+pub mod Words
+pub mod Script

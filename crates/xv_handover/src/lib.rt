@@ -5,6 +5,8 @@
 // as whether it has offered. The layer above may rely on this: each call of a node does what its table says, or
 // changes nothing; over every list of calls, deliveries and restarts the two nodes never both own the guest; and when
 // node B becomes the owner its number is that of node A's offer. That a handover is ever decided is not promised.
+// A script's text is read as the one list of events that it spells, or refused by its first faulty line; the lines of
+// the answers are stated functions of the events, their answers and the nodes.
 #![tactic(auto)]
 
 mod keeper;
@@ -15,16 +17,26 @@ mod message;
 mod node_a;
 mod node_b;
 mod play;
+mod print;
+mod read;
 #[cfg(test)]
 mod tests;
+#[cfg(test)]
+mod text_tests;
+mod word;
 mod world;
 
 pub use keeper::Keeper;
 pub use kept::{KeptA, KeptB, Stage};
-pub use laws::{messages_stay_true, never_two_owners, owner_has_the_offered_number};
+pub use laws::{
+    aborts_have_number_zero, messages_stay_true, never_two_owners, no_event_fails,
+    owner_has_the_offered_number, pass_waits_for_its_message,
+};
 pub use memory::MemKeeper;
 pub use message::{Kind, Message, Reply};
 pub use node_a::NodeA;
 pub use node_b::NodeB;
 pub use play::play_world;
+pub use print::{print_reply, print_world};
+pub use read::read_world;
 pub use world::{World, WorldEvent};

@@ -5,5 +5,5 @@ pub mod Played
 pub mod Inputs
 pub mod Results
 pub mod Always
-pub mod Words
 pub mod Refusals
+pub mod Handovers

@@ -2,3 +2,6 @@ pub mod Refused
 pub mod Replay
 pub mod Top
 pub mod Playing
+pub mod Command
+pub mod Handover
+pub mod Answers

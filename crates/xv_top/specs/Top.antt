@@ -1,7 +1,8 @@
 -- What the answers of the top call mean.
-use Rattle.std.specs.Prelude.{◌≡◌, ◌⊎◌, ℕ, true, List, [], ◌∷◌, take, codes, Option, Some, None, IfSome, ⊤}
-use Rattle.xv_io.specs.Io.{IsAtEnd, GaveAtLeast, TookMore, TookFront}
+use Rattle.std.specs.Prelude.{◌≡◌, ◌⊎◌, ℕ, ◌+◌, true, List, take, Option, Some, None, IfSome, ⊤}
+use Rattle.xv_io.specs.Io.{GaveAtLeast, TookMore, TookFront}
 use Rattle.xv_base.specs.declared.text.LineFault.{LineFault}
+use Rattle.xv_base.specs.declared.text.LineWhy.TheVariants.{Limit}
 use Rattle.xv_model.specs.Job.{Job}
 use Rattle.xv_model.specs.Step.{Entry, run, play, is_faithful}
 use Rattle.xv_model.specs.Invariant.{IsViewOf}
@@ -13,13 +14,11 @@ use Rattle.xv_script.specs.Script.{IsScriptOf}
 use Rattle.xv_script.specs.declared.line.Line.{Line}
 use Rattle.xv_core.specs.Seen.{Seen, IsKept}
 use Rattle.xv_top.specs.Replay.{input_text, output_text}
-use Rattle.xv_top.specs.Refused.{input_fault, refused_line}
+use Rattle.xv_top.specs.Refused.{input_limit, input_fault, refused_line}
+use Rattle.xv_top.specs.declared.program.Left.{Left}
+use Rattle.xv_top.specs.declared.program.Left.TheVariants.{First}
 use Rattle.xv_top.specs.declared.input.InputError.{InputError}
 use Rattle.xv_top.specs.declared.input.InputError.TheVariants.{Refused, ReadFault, NoMemory}
-
--- the words are the one word `replay`
-abbrev pub IsReplay : List (List ℕ) → Type 0
-IsReplay words = words ≡ codes "replay" ∷ []
 
 -- these bytes are refused nowhere, and are the text of this job and this script
 pub record IsInput (bytes : List ℕ) (written : Written) (lines : List Line) : Type 0 where
@@ -28,6 +27,11 @@ pub record IsInput (bytes : List ℕ) (written : Written) (lines : List Line) : 
   pub built : IsBuilt written
   pub script : IsScriptOf (job_of written) lines
   pub text : bytes ≡ input_text written lines
+
+-- more bytes than the limit were read, and that is the fault
+pub record IsTooLong (fault : LineFault) (old new : Option (List ℕ)) : Type 0 where
+  pub is : fault ≡ record { line = 0; why = Limit 1 }
+  pub past : GaveAtLeast (input_limit + 1) old new
 
 -- these bytes are refused so
 abbrev pub IsRefused : List ℕ → LineFault → Type 0
@@ -46,6 +50,16 @@ pub record HasRun (written : Written) (lines : List Line) (m : Seen) : Type 0 wh
   pub faithful : is_faithful (job_of written) m.journal ≡ true
   pub kept : IsKept m
   pub always : (n : ℕ) → HoldsAfter (job_of written) (play (job_of written) (take n (events_of lines)))
+
+-- a job and a script were read, the migration that is left has run them, and their output was taken
+pub record IsReplayed (bytes old new : Option (List ℕ)) (left : Left) : Type 0 where
+  pub written : Written
+  pub lines : List Line
+  pub migration : Seen
+  pub input : IfSome bytes (λ xs. IsInput xs written lines)
+  pub output : TookMore old new (output_text (job_of written) lines)
+  pub has_run : HasRun written lines migration
+  pub is_left : left ≡ First migration
 
 -- where the output failed: a front of the refusal of an input that is refused, or of the output of the job and the
 -- script

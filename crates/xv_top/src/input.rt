@@ -6,7 +6,7 @@ ghost use Rattle.xv_job.specs.Written.{job_of};
 ghost use Rattle.xv_job.specs.Built.{IsBuilt};
 ghost use Rattle.xv_script.specs.Script.{IsScriptOf};
 ghost use Rattle.xv_top.specs.Refused.{input_limit, input_fault};
-ghost use Rattle.xv_top.specs.Top.{IsInput, IsRefused, IsReadFault, RefusedSo};
+ghost use Rattle.xv_top.specs.Top.{IsInput, IsRefused, IsTooLong, IsReadFault, RefusedSo};
 
 use std::alloc::Global;
 use xv_base::{LineFault, LineWhy, TextError};
@@ -37,13 +37,26 @@ pub fn read_input<I: Source>(alloc: Global, input: &mut I) -> Result<(Job, Vec<L
     ensures refused_reads { IfErr result (λ error. RefusedSo error (λ fault. IsAtEnd (I.left input.new) ⊎ GaveAtLeast (input_limit + 1) (I.left input.old) (I.left input.new))) }
     ensures fault { IfErr result (λ error. IsReadFault error → CountRose (I.faults input.old) (I.faults input.new)) }
 {
-    let text = match read_all(alloc, input, LIMIT) {
-        Ok(text) => text,
-        Err(ReadAll::TooLong) => return Err(InputError::Refused(too_long())),
-        Err(ReadAll::ReadFault) => return Err(InputError::ReadFault),
-        Err(ReadAll::NoMemory) => return Err(InputError::NoMemory),
-    };
-    parse(alloc, &text)
+    match read_bytes(alloc, input) {
+        Ok(text) => parse(alloc, &text),
+        Err(error) => Err(error),
+    }
+}
+
+/// Reads all bytes of an input, to its end.
+pub fn read_bytes<I: Source>(alloc: Global, input: &mut I) -> Result<Vec<u8>, InputError>
+    ensures text { IfOk result (λ text. IfSome (I.left input.old) (λ bytes. text.items ≡ bytes)) }
+    ensures few { IfOk result (λ text. length text.items ≤ input_limit) }
+    ensures ended { OnOk result (IsAtEnd (I.left input.new)) }
+    ensures too_long { IfErr result (λ error. RefusedSo error (λ fault. IsTooLong fault (I.left input.old) (I.left input.new))) }
+    ensures fault { IfErr result (λ error. IsReadFault error → CountRose (I.faults input.old) (I.faults input.new)) }
+{
+    match read_all(alloc, input, LIMIT) {
+        Ok(text) => Ok(text),
+        Err(ReadAll::TooLong) => Err(InputError::Refused(too_long())),
+        Err(ReadAll::ReadFault) => Err(InputError::ReadFault),
+        Err(ReadAll::NoMemory) => Err(InputError::NoMemory),
+    }
 }
 
 /// The fault of an input of too many bytes.

@@ -1,12 +1,41 @@
-//! The line of a refusal.
+//! How words and inputs are refused.
 
-ghost use Rattle.std.specs.Prelude.{◌≡◌, ◌≤◌, ◌+◌, ◌++◌, length, codes, decimal};
-ghost use Rattle.xv_top.specs.Refused.{why_words, refused_line};
+ghost use Rattle.std.specs.Prelude.{◌≡◌, ◌⊎◌, ◌≤◌, ◌+◌, ◌++◌, length, codes, decimal};
+ghost use Rattle.xv_io.specs.Io.{CountRose, TookMore, TookFront};
+ghost use Rattle.xv_top.specs.Refused.{why_words, refused_line, refused_words};
 
-use xv_base::{LineBuf, LineFault, LineWhy};
+use crate::output::write_out;
+use xv_base::{LineBuf, LineFault, LineWhy, Status};
+use xv_io::Sink;
+
+/// Writes that the words call no command.
+pub fn refuse_words<O: Sink>(output: &mut O) -> Status
+    ensures answers { (result ≡ Status.BadWords) ⊎ (result ≡ Status.WriteFault) }
+    ensures written { result ≡ Status.BadWords → TookMore (O.taken output.old) (O.taken output.new) refused_words }
+    ensures front { result ≡ Status.WriteFault → TookFront (O.taken output.old) (O.taken output.new) refused_words }
+    ensures fault { result ≡ Status.WriteFault → CountRose (O.faults output.old) (O.faults output.new) }
+{
+    match write_out(output, b"refused words\n") {
+        Ok(()) => Status::BadWords,
+        Err(_) => Status::WriteFault,
+    }
+}
+
+/// Writes why an input is refused.
+pub fn refuse_input<O: Sink>(fault: LineFault, output: &mut O) -> Status
+    ensures answers { (result ≡ Status.BadInput) ⊎ (result ≡ Status.WriteFault) }
+    ensures written { result ≡ Status.BadInput → TookMore (O.taken output.old) (O.taken output.new) (refused_line fault) }
+    ensures front { result ≡ Status.WriteFault → TookFront (O.taken output.old) (O.taken output.new) (refused_line fault) }
+    ensures fault { result ≡ Status.WriteFault → CountRose (O.faults output.old) (O.faults output.new) }
+{
+    match write_out(output, print_refusal(fault).bytes()) {
+        Ok(()) => Status::BadInput,
+        Err(_) => Status::WriteFault,
+    }
+}
 
 /// The line that refuses an input. Takes no memory.
-pub fn print_refusal(fault: LineFault) -> LineBuf
+fn print_refusal(fault: LineFault) -> LineBuf
     ensures { result ≡ refused_line fault }
 {
     let mut line = LineBuf::new();

@@ -28,15 +28,15 @@ const READ_OUT: &[u8] =
 const REPORT: &[u8] =
     b"phase running\nowner source\nhistory 0\nfaulted 0\njournal 0\nstun none\ncopied 0\nrounds 0\nmessages 0\nmirrors 0\napplied 0\ncredit 4\n";
 
-struct Case {
-    name: &'static str,
-    words: &'static [&'static str],
-    input: &'static [u8],
+pub struct Case {
+    pub name: &'static str,
+    pub words: &'static [&'static str],
+    pub input: &'static [u8],
     /// The calls of the source that fail.
-    fails: &'static [u32],
-    room: u32,
-    status: u8,
-    output: &'static [u8],
+    pub fails: &'static [u32],
+    pub room: u32,
+    pub status: u8,
+    pub output: &'static [u8],
 }
 
 const CASES: &[Case] = &[
@@ -160,7 +160,7 @@ const CASES: &[Case] = &[
 ];
 
 /// The status of a run, and what it wrote; the source gives one byte a read.
-fn outcome(alloc: Global, case: &Case) -> Result<(u8, Vec<u8>), AllocError> {
+pub fn outcome(alloc: Global, case: &Case) -> Result<(u8, Vec<u8>), AllocError> {
     let mut words = Vec::new(alloc);
     for word in case.words {
         words.push(String::from_str(alloc, word)?)?;

@@ -1,0 +1,7 @@
+use Rattle.std.proofs.Common.{ℕ, List, ◌∙◌, subst}
+use Rattle.xv_io.specs.Io.{TookMore}
+use Rattle.xv_top.proofs.refusal.refuse_input.Goals as goal
+
+pub returns-in-Ok-clause-written : goal.returns-in-Ok-clause-written
+returns-in-Ok-clause-written g c = λ _.
+    subst (λ (line : List ℕ). TookMore (g.O.Sink.taken c.args.output.now) (g.O.Sink.taken c.write_out.new.output) line) (c.bytes.ensures.exactly ∙ c.print_refusal.ensures) c.in-Ok.ensures.whole

@@ -1,0 +1,33 @@
+-- What the answers of the top call mean, command by command: `bytes` are the input's, `old` and `new` what the output
+-- has taken before and after.
+use Rattle.std.specs.Prelude.{◌≡◌, ℕ, List, Option, Some, IfSome}
+use Rattle.xv_io.specs.Io.{TookMore}
+use Rattle.xv_base.specs.declared.text.LineFault.{LineFault}
+use Rattle.xv_top.specs.Refused.{input_fault, refused_line}
+use Rattle.xv_top.specs.Top.{IsReplayed, IsFrontFor}
+use Rattle.xv_top.specs.Handover.{handover_fault, IsHandedOver, IsHandoverFront}
+use Rattle.xv_top.specs.declared.command.Command.{Command}
+use Rattle.xv_top.specs.declared.command.Command.TheVariants.{Replay, Handover}
+use Rattle.xv_top.specs.declared.program.Left.{Left}
+use Rattle.xv_top.specs.declared.program.Left.TheVariants.{Nothing}
+
+-- the command did its work: its input, its output and what is left
+abbrev pub IsDone : Command → Option (List ℕ) → Option (List ℕ) → Option (List ℕ) → Left → Type 0
+IsDone Replay bytes old new left = IsReplayed bytes old new left
+IsDone Handover bytes old new left = IsHandedOver bytes old new × (left ≡ Nothing)
+
+-- what is wrong with an input of the command
+abbrev pub fault_of : Command → List ℕ → Option LineFault
+fault_of Replay bytes = input_fault bytes
+fault_of Handover bytes = handover_fault bytes
+
+-- the input was refused, and the line that says why was taken
+pub record IsRefusedBy (command : Command) (bytes old new : Option (List ℕ)) : Type 0 where
+  pub fault : LineFault
+  pub refused : IfSome bytes (λ xs. fault_of command xs ≡ Some fault)
+  pub output : TookMore old new (refused_line fault)
+
+-- where the output failed: a front of the line of the refusal, or of the command's output
+abbrev pub IsFrontBy : Command → Option (List ℕ) → Option (List ℕ) → Option (List ℕ) → Type 0
+IsFrontBy Replay bytes old new = IsFrontFor bytes old new
+IsFrontBy Handover bytes old new = IsHandoverFront bytes old new
