@@ -37,6 +37,7 @@ impl<W: Wire> BackWire<W> {
         ensures counts { result.counts ≡ [] }
         ensures gathered { result.gathered ≡ [] }
         ensures wire { result.wire ≡ W.told wire }
+        ensures faults { result.faults ≡ W.faults wire }
     {
         BackWire {
             wire,
