@@ -1,115 +1,142 @@
--- The state that a migration of the built form keeps, as plain values, and how it shows a view: what only proofs need,
--- the mark, the first `at` and the recorded ones, is nowhere in it.
-use Rattle.std.specs.Prelude.{◌≡◌, ◌≤◌, ◌<◌, ℕ, ◌-◌, ◌==◌, Bool, true, false, List, [], ◌∷◌, ◌++◌, length, map, replicate, get_or, Option}
-use Rattle.xv_model.specs.Job.{IsGoodJob, unit_count, size, operation_count}
-use Rattle.xv_model.specs.Guest.{Ended}
-use Rattle.xv_model.specs.View.{View, Phase, UnitHead, number, is_running, no_message}
-use Rattle.xv_model.specs.Report.{is_written}
-use Rattle.xv_model.specs.Step.{Entry, run, is_run}
-use Rattle.xv_model.specs.Invariant.{IsViewOf}
-use Rattle.xv_model.specs.Contents.{Contents, HoldsContents, unit_content}
+-- The parts of a migration as plain values, and how they show a view and its contents: what only proofs need, the mark and
+-- the first `at`, is nowhere in them.
+use Rattle.std.specs.Prelude.{◌≡◌, ◌≤◌, ◌<◌, ℕ, ◌*◌, ◌&&◌, Bool, true, false, List, [], ◌∷◌, ◌++◌, length, map, Option, unwrap_or, is_some}
+use Rattle.std.specs.List.{list_all}
+use Rattle.xv_base.specs.Units.{Shape}
+use Rattle.xv_model.specs.Job.{Job, IsGoodJob}
+use Rattle.xv_model.specs.Guest.{Ended, reads}
+use Rattle.xv_model.specs.View.{View, Phase, is_live}
+use Rattle.xv_model.specs.Wait.{Event, fits}
+use Rattle.xv_model.specs.Effect.{Turn}
+use Rattle.xv_model.specs.Step.{Entry, turn, step, run, is_run, is_flagged, is_wait}
+use Rattle.xv_model.specs.Contents.{Contents, HoldsContents, step_contents}
+use Rattle.xv_model.specs.Outside.{outside}
 use Rattle.xv_job.specs.Written.{Written, job_of}
-use Rattle.xv_job.specs.Built.{IsBuilt}
-use Rattle.xv_job.specs.BuiltEvents.{has_begin}
-use Rattle.xv_core.specs.Copies.{DiskState, no_copy, shown_disk}
-use Rattle.xv_core.specs.Seen.{Seen, source_writes, dest_writes}
-use Rattle.xv_core.specs.declared.message.Message.{Message}
-use Rattle.xv_device.specs.Memory.{Device}
+use Rattle.xv_frame.specs.Frame.{Each}
+use Rattle.xv_streams.specs.Streamed.{Streamed, LaneSeen, lane}
+use Rattle.xv_streams.specs.Carried.{most_bytes, IsCarried}
+use Rattle.xv_streams.specs.Fronts.{heads_on, contents_on}
+use Rattle.xv_streams.specs.Returned.{Returned, AreCarried}
+use Rattle.xv_source.specs.Half.{Source}
+use Rattle.xv_dest.specs.Half.{Dest}
+use Rattle.xv_core.specs.Seen.{Seen, OnDevice, OnWire}
 
 pub record State : Type 0 where
   pub job : Written
   pub journal : List Entry
   pub history : List Ended
-  pub source : Device
-  pub dest : Device
   pub phase : Phase
   pub stun : Option ℕ
-  pub disks : List DiskState
-  pub next_page : ℕ
-  pub rounds : ℕ
-  pub outbox : List Message
-  pub issued : List ℕ
-  pub stream : List Message
-  pub held : List Message
-  pub applied : List ℕ
-  pub credit : ℕ
-  pub freed : ℕ
-  pub acks : List ℕ
+  pub source : Source
+  pub dest : Dest
+  pub streams : Streamed
+  pub back : Returned
   pub reads : List ℕ
 
--- the copy of one disk
-abbrev pub copy : State → ℕ → DiskState
-copy s d = get_or s.disks d no_copy
+abbrev pub state_of : Written → List Entry → List Ended → Phase → Option ℕ → Source → Dest → Streamed → Returned → List ℕ → State
+state_of job journal history phase stun source dest streams back reads = record {
+  job = job;
+  journal = journal;
+  history = history;
+  phase = phase;
+  stun = stun;
+  source = source;
+  dest = dest;
+  streams = streams;
+  back = back;
+  reads = reads;
+}
 
-abbrev pub heads : List Message → List UnitHead
-heads messages = map (λ m. m.head) messages
+-- the view that it stands in
+abbrev pub view : State → View
+view s = run (job_of s.job) s.journal
 
-abbrev pub contents : List Message → List (List ℕ)
-contents messages = map (λ m. m.content) messages
-
--- the pages from the next one on, of so many, as a set
-abbrev pub pages_from : ℕ → ℕ → List Bool
-pages_from next pages = replicate next false ++ replicate (pages - next) true
-
--- a view with all that the state has in it
+-- a view with all that the parts have of it
 abbrev pub shown : State → View → View
 shown s v = record {
   history = s.history;
   stun = s.stun;
   mark = v.mark;
   phase = s.phase;
-  disks = map shown_disk s.disks;
-  dirty = replicate s.job.shape.pages (s.rounds == 0);
-  to_send = pages_from s.next_page s.job.shape.pages;
-  rounds = s.rounds;
-  outbox = record { messages = heads s.outbox; issued = s.issued; first = v.outbox.first };
-  streams = map (λ m. m.head ∷ []) s.stream ∷ [];
-  hold = record { held = heads s.held; applied = s.applied; recorded = v.hold.recorded };
-  credit = s.credit;
-  freed = s.freed;
-  acks = s.acks;
+  disks = s.source.disks;
+  dirty = s.source.dirty;
+  to_send = s.source.to_send;
+  rounds = s.source.rounds;
+  outbox = record { messages = s.source.messages; issued = s.source.issued; first = v.outbox.first };
+  streams = heads_on s.streams.lanes;
+  hold = record { held = s.dest.held; applied = s.dest.applied; recorded = s.dest.recorded };
+  credit = s.source.credit;
+  freed = s.dest.freed;
+  acks = s.back.counts;
 }
 
-abbrev pub held_contents : State → Contents
-held_contents s = record {
-  source = s.source.contents;
-  dest = s.dest.contents;
-  regions = map (λ d. d.blocks) s.disks;
-  outbox = contents s.outbox;
-  streams = map (λ m. m.content ∷ []) s.stream ∷ [];
-  held = contents s.held;
+-- whether both devices tell what they hold, and the contents that the parts have then
+abbrev pub both_tell : State → Bool
+both_tell s = is_some s.source.told.contents && is_some s.dest.told.contents
+
+abbrev pub contents_of : State → Contents
+contents_of s = record {
+  source = unwrap_or s.source.told.contents [];
+  dest = unwrap_or s.dest.told.contents [];
+  regions = s.source.regions;
+  outbox = s.source.contents;
+  streams = contents_on s.streams.lanes;
+  held = s.dest.contents;
   reads = s.reads;
 }
 
--- what the state keeps
-pub record IsState (s : State) : Type 0 where
-  pub good : IsGoodJob (job_of s.job)
-  pub built : IsBuilt s.job
-  pub is_run : is_run (job_of s.job) s.journal ≡ true
-  pub view : IsViewOf (job_of s.job) (run (job_of s.job) s.journal)
-  pub shows : shown s (run (job_of s.job) s.journal) ≡ run (job_of s.job) s.journal
-  pub contents : HoldsContents (job_of s.job) (run (job_of s.job) s.journal) (held_contents s)
-  pub unwritten : (unit : ℕ) → unit < unit_count (job_of s.job) → is_written (run (job_of s.job) s.journal) unit ≡ false → unit_content s.dest.contents unit ≡ replicate (size s.job.shape unit) 0
-  pub source_made : (unit : ℕ) → unit < unit_count (job_of s.job) → number s.source.writes unit ≡ source_writes (job_of s.job) (run (job_of s.job) s.journal) unit
-  pub dest_made : (unit : ℕ) → unit < unit_count (job_of s.job) → number s.dest.writes unit ≡ dest_writes (job_of s.job) (run (job_of s.job) s.journal) unit
-  pub source_counts : length s.source.writes ≡ unit_count (job_of s.job)
-  pub dest_counts : length s.dest.writes ≡ unit_count (job_of s.job)
-  pub source_shape : s.source.shape ≡ s.job.shape
-  pub dest_shape : s.dest.shape ≡ s.job.shape
-  pub no_late_page : is_running s.phase ≡ false → s.next_page ≡ s.job.shape.pages
-  pub next_page_within : s.next_page ≤ s.job.shape.pages
-  pub few_rounds : s.rounds ≤ 1
-  pub not_begun : has_begin s.journal ≡ false → (d : ℕ) → ((copy s d).cursor ≡ 0) × ((copy s d).region ≡ 0)
-  pub history_room : length s.history ≤ operation_count (job_of s.job)
-  pub source_plan : (s.source.plan.reads ≡ []) × (s.source.plan.writes ≡ []) × (s.source.plan.flushes ≡ [])
-  pub dest_plan : (s.dest.plan.reads ≡ []) × (s.dest.plan.writes ≡ []) × (s.dest.plan.flushes ≡ [])
-  pub source_calls : (s.source.calls.reads ≤ length s.journal) × (s.source.calls.writes ≤ length s.journal)
-  pub dest_calls : (s.dest.calls.writes ≤ length s.journal) × (s.dest.calls.flushes ≤ length s.journal)
+-- the devices and the wires
+abbrev pub on_source : Source → OnDevice
+on_source h = record { told = h.told; faults = h.faults }
 
--- what contracts see of it
+abbrev pub on_dest : Dest → OnDevice
+on_dest h = record { told = h.told; faults = h.faults }
+
+abbrev pub on_wire : LaneSeen → OnWire
+on_wire l = record { gathered = l.gathered; told = l.wire; faults = l.faults }
+
+abbrev pub on_back : Returned → OnWire
+on_back r = record { gathered = r.gathered; told = r.wire; faults = r.faults }
+
+-- what contracts see of the parts
 abbrev pub seen_of : State → Seen
-seen_of s = record { job = s.job; journal = s.journal; source = s.source; dest = s.dest; reads = s.reads }
+seen_of s = record {
+  job = s.job;
+  journal = s.journal;
+  reads = s.reads;
+  source = on_source s.source;
+  dest = on_dest s.dest;
+  wires = map on_wire s.streams.lanes;
+  back = on_back s.back;
+}
 
--- what stands for a message that is not there
-abbrev pub no_content : Message
-no_content = record { head = no_message; content = [] }
+-- the parts are of this job: its layout, its limits and its format are theirs, and the wires have room for all credit
+pub record ArePartsOf (job : Job) (source : Source) (dest : Dest) (streams : Streamed) (back : Returned) : Type 0 where
+  pub source_shape : source.shape ≡ job.shape
+  pub source_limits : source.config ≡ job.config
+  pub source_layout : source.told.shape ≡ job.shape
+  pub dest_shape : dest.shape ≡ job.shape
+  pub dest_limit : dest.limit ≡ job.config.credit
+  pub dest_layout : dest.told.shape ≡ job.shape
+  pub streams_shape : streams.shape ≡ job.shape
+  pub streams_format : streams.format ≡ job.format
+  pub each_stream : length streams.lanes ≡ job.config.streams
+  pub none_made : streams.making ≡ []
+  pub wires_room : (s : ℕ) → s < job.config.streams → job.config.credit * most_bytes job.shape job.format ≤ (lane streams s).wire.capacity
+  pub back_room : 24 * job.config.credit ≤ back.wire.capacity
+
+-- what the parts keep: the journal is a run of the job, they show the view that it ends in, and where both devices tell
+-- what they hold, the contents hold; the bytes read are as many as the history's reads
+pub record IsRunning (s : State) : Type 0 where
+  pub good : IsGoodJob (job_of s.job)
+  pub fitting : list_all (λ e. fits (job_of s.job) e.event) s.journal ≡ true
+  pub is_run : is_run (job_of s.job) s.journal ≡ true
+  pub parts : ArePartsOf (job_of s.job) s.source s.dest s.streams s.back
+  pub shows : shown s (view s) ≡ view s
+  pub contents : both_tell s ≡ true → HoldsContents (job_of s.job) (view s) (contents_of s)
+  pub reads_long : length s.reads ≡ length (reads (job_of s.job) (view s).history (length (view s).history))
+
+-- the bytes gathered and in transit are the spellings of what the streams and the way back carry
+pub record IsCarriedOver (over : Streamed) (way_back : Returned) : Type 0 where
+  pub streams : Each (IsCarried over.shape over.format) over.lanes
+  pub back : AreCarried way_back

@@ -1,18 +1,26 @@
-// The migration: one event is one step. Contracts see it as its job, its journal, what its two devices tell and what the
-// guest has read; its view is the run of the journal. The type keeps that the journal is a run, the view invariant, that
-// each device holds what the unmigrated guest's history says of it, and that the bytes read are the unmigrated guest's.
+// The migration: one event is one step.
 #![tactic(auto)]
 
-mod copies;
-mod disk;
-mod message;
+mod cancels;
+mod copying;
+mod counting_laws;
+mod ending;
+mod guest_waits;
+mod guests;
+mod keeping_laws;
+mod laws;
 mod migration;
-mod parts;
-mod phase;
-mod steps;
+mod rooms;
+mod settling;
+mod starting;
+mod stepping;
 mod sums;
-#[cfg(test)]
-mod tests;
+mod telling;
+mod own_waits;
+mod rounds;
+mod moving;
+mod moving_waits;
 
-pub use message::{Content, Message};
 pub use migration::Migration;
+pub use starting::Parts;
+pub use telling::fits;

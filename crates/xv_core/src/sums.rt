@@ -1,37 +1,65 @@
-//! Sums of versions.
+//! The sums of the report.
 
-ghost use Rattle.std.specs.Prelude.{◌≡◌, ◌≤◌, ◌<◌, ◌-◌, ◌^◌, ℕ, drop, length, sum, count_by, nat_lt};
+ghost use Rattle.std.specs.Prelude.{◌≡◌, ◌≤◌, ◌<◌, ◌^◌, ℕ, drop, length, sum, sum_by, count_by, nat_lt};
+ghost use Rattle.xv_base.specs.Units.{units};
 
-/// The sum of the numbers.
-pub fn sum_of(numbers: &[u32]) -> u32
-    requires { sum numbers.now < 2 ^ 32 }
-    ensures { result ≡ sum numbers.now }
+use xv_base::UnitId;
+use xv_dest::DestHalf;
+use xv_device::UnitDevice;
+use xv_source::SourceHalf;
+
+/// How many versions were made of the units from one on.
+pub(crate) fn issued_from<S: UnitDevice>(source: &SourceHalf<S>, first: u32, count: u32) -> u32
+    requires within { first ≤ count }
+    requires units { count ≡ units source.now.shape }
+    requires each { count ≡ length source.now.issued }
+    requires few { sum source.now.issued < 2 ^ 32 }
+    ensures { result ≡ sum (drop first source.now.issued) }
 {
     let mut total = 0;
-    for number in numbers {
-        total += *number;
+    for unit in first..count {
+        total += source.issued(UnitId(unit));
     }
     total
 }
 
-/// How many of the numbers are not zero.
-fn some_of(numbers: &[u32]) -> u32
-    requires { sum numbers.now < 2 ^ 32 }
-    ensures { result ≡ count_by (λ (k : ℕ). nat_lt 0 k) numbers.now }
+/// Of how many of the units from one on a version was made.
+pub(crate) fn made_from<S: UnitDevice>(source: &SourceHalf<S>, first: u32, count: u32) -> u32
+    requires within { first ≤ count }
+    requires units { count ≡ units source.now.shape }
+    requires each { count ≡ length source.now.issued }
+    ensures { result ≡ count_by (λ (k : ℕ). nat_lt 0 k) (drop first source.now.issued) }
 {
-    let mut count = 0;
-    for number in numbers {
-        count += u32::from(*number > 0);
+    let mut total = 0;
+    for unit in first..count {
+        total += u32::from(source.issued(UnitId(unit)) > 0);
     }
-    count
+    total
 }
 
-/// How many versions of blocks there are after their first, where the first so many numbers are of pages.
-pub fn mirrors_of(issued: &[u32], pages: u32) -> u32
-    requires within { pages ≤ length issued.now }
-    requires fits { sum issued.now < 2 ^ 32 }
-    ensures { result ≡ sum (drop pages issued.now) - count_by (λ (k : ℕ). nat_lt 0 k) (drop pages issued.now) }
+/// How many versions were written.
+pub(crate) fn written<T: UnitDevice>(dest: &DestHalf<T>, count: u32) -> u32
+    requires units { count ≡ units dest.now.shape }
+    requires each { count ≡ length dest.now.applied }
+    requires few { sum dest.now.applied < 2 ^ 32 }
+    ensures { result ≡ sum dest.now.applied }
 {
-    let blocks = &issued[pages as usize..];
-    sum_of(blocks) - some_of(blocks)
+    let mut total = 0;
+    for unit in 0..count {
+        total += dest.version(UnitId(unit));
+    }
+    total
+}
+
+/// How many blocks are behind on all disks.
+pub(crate) fn copied<S: UnitDevice>(source: &SourceHalf<S>, disks: u8) -> u32
+    requires each { disks ≡ length source.now.disks }
+    requires few { sum_by (λ d. d.cursor) source.now.disks < 2 ^ 32 }
+    ensures { result ≡ sum_by (λ d. d.cursor) source.now.disks }
+{
+    let mut total = 0;
+    for disk in 0..disks {
+        total += source.cursor(disk);
+    }
+    total
 }

@@ -2,3 +2,4 @@ pub mod Device
 pub mod Told
 pub mod Pieces
 pub mod Memory
+pub mod Operations

@@ -39,6 +39,11 @@ pub record MayCall (call : DeviceCall) (told : Told) : Type 0 where
   pub few_writes : HasFewWrites call told.writes
   pub countable : IfSome told.counted (λ c. IsCountable call c.calls)
 
+-- no number is out of reach of one call more
+pub record HasRoomToCount (told : Told) : Type 0 where
+  pub writes : (unit : ℕ) → write_count told.writes unit < 2 ^ 63
+  pub calls : IfSome told.counted (λ c. (c.calls.reads < 2 ^ 63) × (c.calls.writes < 2 ^ 63) × (c.calls.flushes < 2 ^ 63))
+
 -- what is told after a call that failed or did not
 abbrev pub told_after : DeviceCall → Bool → Told → Told
 told_after call failed t = record {

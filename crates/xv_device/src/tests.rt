@@ -1,10 +1,13 @@
+ghost use Rattle.std.specs.Prelude.{◌≡◌, ◌<◌, IfOk};
+ghost use Rattle.xv_base.specs.Units.{units};
 ghost use Rattle.xv_device.specs.Device.{FlushAll};
-ghost use Rattle.xv_device.specs.Told.{MayCall};
+ghost use Rattle.xv_device.specs.Told.{MayCall, HasRoomToCount};
+ghost use Rattle.xv_device.specs.Memory.{told};
 
-use crate::{DevicePlan, MemDevice, UnitDevice};
+use crate::{DevicePlan, MemDevice, UnitDevice, operate};
 use std::alloc::Global;
 use std::test::Fail;
-use xv_base::{Failed, Init, Layout, Pattern, UnitId};
+use xv_base::{DiskShape, Failed, Init, Layout, Pattern, UnitId, UnitOp};
 
 fn plan(alloc: Global, reads: u32, writes: u32, flushes: u32) -> Result<DevicePlan, Fail> {
     Ok(DevicePlan {
@@ -54,4 +57,44 @@ fn flush_through<D: UnitDevice>(device: &mut D) -> Result<(), Failed>
     requires { MayCall FlushAll (D.told device.old) }
 {
     device.flush()
+}
+
+#[test]
+fn carries_out_operations(rt: HostRuntime) -> Result<(), Fail> {
+    let alloc = rt.alloc();
+    let layout = Layout::new(2, 16, &[])?;
+    let cases: [(u32, Option<Pattern>, &[u8; 16], &[u8; 3]); 2] = [
+        (1, Some(Pattern::new(b"ab")), b"cabacdcdcdcdcdcd", b"\0\0\0"),
+        (3, None, b"cdcdcdcdcdcdcdcd", b"dcd"),
+    ];
+    for (offset, write, content, read) in cases {
+        let mut device = one_filled(alloc, &layout)?;
+        let op = UnitOp {
+            unit: UnitId(1),
+            offset,
+            len: 3,
+            write,
+        };
+        let mut unit = [0; 16];
+        let mut into = [0; 3];
+        assert_eq!(rt;
+            operate(&mut device, &layout, &op, &mut unit, &mut into),
+            Ok(())
+        );
+        assert_eq!(rt; device.content(UnitId(1)), content.as_slice());
+        assert_eq!(rt; into.as_slice(), read.as_slice());
+    }
+    Ok(())
+}
+
+/// A device whose unit 1 is filled.
+fn one_filled(alloc: Global, layout: &Layout) -> Result<MemDevice, Fail>
+    requires { 1 < units layout.now }
+    ensures { IfOk result (λ device. (device.shape ≡ layout.now) × HasRoomToCount (told device)) }
+{
+    let init = [Init {
+        unit: UnitId(1),
+        pattern: Pattern::new(b"cd"),
+    }];
+    Ok(MemDevice::new(alloc, layout, &init, plan(alloc, 0, 0, 0)?)?)
 }

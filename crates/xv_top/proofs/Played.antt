@@ -19,7 +19,7 @@ use Rattle.xv_job.specs.BuiltEvents.{is_built_event, is_guest, is_begin, are_bui
 use Rattle.xv_script.specs.Lines.{turn_line}
 use Rattle.xv_script.specs.declared.line.Line.{Line}
 use Rattle.xv_script.specs.declared.line.Line.TheVariants.{Step}
-use Rattle.xv_core.specs.Seen.{Seen, view_of, bytes_read, IsStep, is_no_memory}
+use Rattle.xv_plain.specs.Seen.{Seen, view_of, bytes_read, IsStep, is_no_memory}
 use Rattle.xv_top.specs.Playing.{IsPlayed, line_played}
 use Rattle.xv_top.specs.Replay.{transcript}
 use Rattle.xv_top.proofs.Plain.{plain_play, plain_transcript, transcript-plain}

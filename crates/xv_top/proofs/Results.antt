@@ -10,7 +10,7 @@ use Rattle.xv_model.specs.Job.{unit_count}
 use Rattle.xv_model.specs.Report.{totals, source_content, dest_content}
 use Rattle.xv_report.specs.Texts.{report_text, image_text}
 use Rattle.xv_job.specs.Written.{job_of}
-use Rattle.xv_core.specs.Seen.{Seen, view_of, IsKept}
+use Rattle.xv_plain.specs.Seen.{Seen, view_of, IsKept}
 use Rattle.xv_top.specs.Replay.{sources, dests, result_text}
 
 pub sources-are : (m : Seen) → IsKept m → m.source.contents ≡ sources (job_of m.job) (view_of m)

@@ -6,7 +6,7 @@ use Rattle.xv_model.specs.Effect.{Turn}
 use Rattle.xv_model.specs.Step.{turn}
 use Rattle.xv_script.specs.Lines.{turn_line}
 use Rattle.xv_job.specs.Written.{job_of}
-use Rattle.xv_core.specs.Seen.{Seen, view_of, bytes_read, IsStep, is_no_memory}
+use Rattle.xv_plain.specs.Seen.{Seen, view_of, bytes_read, IsStep, is_no_memory}
 
 -- the line of an event that is played
 abbrev pub line_played : Seen → Event → List ℕ

@@ -15,7 +15,7 @@ use Rattle.xv_job.specs.JobText.{job_text}
 use Rattle.xv_script.specs.Lines.{turn_line, script_text, events_of}
 use Rattle.xv_script.specs.declared.line.Line.{Line}
 use Rattle.xv_report.specs.Texts.{report_text, image_text}
-use Rattle.xv_core.specs.Seen.{Seen, view_of, IsKept}
+use Rattle.xv_plain.specs.Seen.{Seen, view_of, IsKept}
 
 -- the input: a job, and a script
 abbrev pub input_text : Written → List Line → List ℕ

@@ -12,7 +12,7 @@ use Rattle.xv_job.specs.Built.{IsBuilt}
 use Rattle.xv_script.specs.Lines.{events_of}
 use Rattle.xv_script.specs.Script.{IsScriptOf}
 use Rattle.xv_script.specs.declared.line.Line.{Line}
-use Rattle.xv_core.specs.Seen.{Seen, IsKept}
+use Rattle.xv_plain.specs.Seen.{Seen, IsKept}
 use Rattle.xv_top.specs.Replay.{input_text, output_text}
 use Rattle.xv_top.specs.Refused.{input_limit, input_fault, refused_line}
 use Rattle.xv_top.specs.declared.program.Left.{Left}

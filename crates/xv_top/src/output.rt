@@ -3,10 +3,10 @@
 ghost use Rattle.std.specs.Prelude.{◌≡◌, OnOk, OnErr};
 ghost use Rattle.xv_io.specs.Io.{CountRose, TookMore, TookFront};
 ghost use Rattle.xv_job.specs.Written.{job_of};
-ghost use Rattle.xv_core.specs.Seen.{IsKept};
+ghost use Rattle.xv_plain.specs.Seen.{IsKept};
 ghost use Rattle.xv_top.specs.Replay.{result_text};
 
-use xv_core::Migration;
+use xv_plain::Migration;
 use xv_io::{Sink, WriteFault, write_text};
 use xv_report::{write_image, write_report};
 

@@ -9,14 +9,14 @@ ghost use Rattle.xv_job.specs.Built.{IsBuilt};
 ghost use Rattle.xv_job.specs.BuiltEvents.{is_built_event, is_guest, has_begin};
 ghost use Rattle.xv_script.specs.Lines.{events_of};
 ghost use Rattle.xv_script.specs.Script.{IsScriptOf};
-ghost use Rattle.xv_core.specs.Seen.{is_no_memory};
+ghost use Rattle.xv_plain.specs.Seen.{is_no_memory};
 ghost use Rattle.xv_top.specs.Replay.{transcript};
 ghost use Rattle.xv_top.specs.Playing.{IsPlayed, line_played};
 
 use crate::input::behind;
 use std::alloc::Global;
 use xv_base::{Event, Turn};
-use xv_core::Migration;
+use xv_plain::Migration;
 use xv_io::{Sink, write_text};
 use xv_script::{Line, print_turn};
 

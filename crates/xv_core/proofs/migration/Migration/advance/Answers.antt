@@ -1,92 +1,50 @@
-use Rattle.std.proofs.Common.{◌≡◌, ◌<◌, ◌+◌, ◌++◌, ◌∷◌, [], List, length, ◌∙◌, refl, ap, sym, subst, arith}
-use Rattle.std.specs.Prelude.{slice_index}
-use Rattle.xv_model.specs.Job.{blocks, unit_of_block}
-use Rattle.xv_model.specs.View.{number}
-use Rattle.xv_core.specs.Copies.{DiskState}
-use Rattle.xv_core.specs.State.{copy}
-use Rattle.xv_core.specs.Fields.{state_of}
-use Rattle.xv_core.specs.declared.message.Message.{Message}
-use Rattle.xv_core.proofs.Done.{seen-goes, seen-disk, entered, done-quietly}
-use Rattle.xv_core.proofs.Shown.{shown-view}
-use Rattle.xv_core.proofs.Copying.{block-unit, advances, advance-answer, advance-holds, advance-unit, advance-few, unmade}
+use Rattle.std.proofs.Common.{refl}
 use Rattle.xv_base.specs.declared.event.Event.TheVariants.{Advance}
+use Rattle.xv_core.specs.State.{state_of}
+use Rattle.xv_core.proofs.ConditionsCounts.{few-versions}
+use Rattle.xv_core.proofs.SourceEvents.{disk-of-half, advance-of}
+use Rattle.xv_core.proofs.SourceSettled.{room-for, stays-settled, steps-settled, rooms-stay}
+use Rattle.xv_core.proofs.SourceWaits.{copy-not-now, waits-as}
 use Rattle.xv_core.proofs.migration.Migration.advance.Goals as goal
 
-pub block_unit-unit-requires-clause-block_in : goal.block_unit-unit-requires-clause-block_in
-block_unit-unit-requires-clause-block_in c =
-    let s = state_of c.self.inside in
-    let d = c.args.disk in
-    let lt = seen-disk s c.args.self.now d c.self.view_is c.requires.disk_in in
-    let goes = seen-goes s c.args.self.now (Advance d) c.self.view_is c.requires.goes_on in
-    let cursor : c.cursor.result ≡ (copy s d).cursor = c.cursor.ensures ∙ ap (λ (x : DiskState). x.cursor) c.disk.ensures in
-    subst (λ n. n < blocks c.self.inside.job.shape.disks d) (sym cursor) (advances s d c.self.invariant.0 lt goes).ahead
+pub advance-turn-requires-clause-disk_in : goal.advance-turn-requires-clause-disk_in
+advance-turn-requires-clause-disk_in g c =
+    let h = c.self.inside in
+    let s = state_of h.job h.journal.items h.history.entries h.phase h.stun h.source h.dest h.streams h.back h.reads.items in
+    disk-of-half s _ c.args.disk c.self.invariant.0 c.self.view_is c.requires
 
-pub advance-content-requires-clause-read : goal.advance-content-requires-clause-read
-advance-content-requires-clause-read c =
-    let s = state_of c.self.inside in
-    let d = c.args.disk in
-    let lt = seen-disk s c.args.self.now d c.self.view_is c.requires.disk_in in
-    let goes = seen-goes s c.args.self.now (Advance d) c.self.view_is c.requires.goes_on in
-    (advances s d c.self.invariant.0 lt goes).one_read
+pub advance-turn-requires-clause-few : goal.advance-turn-requires-clause-few
+advance-turn-requires-clause-few g c =
+    let h = c.self.inside in
+    let s = state_of h.job h.journal.items h.history.entries h.phase h.stun h.source h.dest h.streams h.back h.reads.items in
+    few-versions s c.self.invariant.0.running
 
-pub advance-content-requires-clause-countable : goal.advance-content-requires-clause-countable
-advance-content-requires-clause-countable c =
-    let s = state_of c.self.inside in
-    let d = c.args.disk in
-    let lt = seen-disk s c.args.self.now d c.self.view_is c.requires.disk_in in
-    let goes = seen-goes s c.args.self.now (Advance d) c.self.view_is c.requires.goes_on in
-    advance-few s d c.self.invariant.0 lt (advances s d c.self.invariant.0 lt goes).ahead
+pub returns-then-not-is_running : goal.returns-then-not-is_running
+returns-then-not-is_running g c =
+    let h = c.self.inside in
+    let s = state_of h.job h.journal.items h.history.entries h.phase h.stun h.source h.dest h.streams h.back h.reads.items in
+    waits-as s _ (Advance c.args.disk) _ c.self.view_is (copy-not-now s (Advance c.args.disk) c.self.invariant.0 refl c.if-not-is_running.ensures)
 
-pub issue-requires-clause-unit_in : goal.issue-requires-clause-unit_in
-issue-requires-clause-unit_in c =
-    let s = state_of c.self.inside in
-    let is = c.self.invariant.0 in
-    let d = c.args.disk in
-    let lt = seen-disk s c.args.self.now d c.self.view_is c.requires.disk_in in
-    let goes = seen-goes s c.args.self.now (Advance d) c.self.view_is c.requires.goes_on in
-    let cursor : c.cursor.result ≡ (copy s d).cursor = c.cursor.ensures ∙ ap (λ (x : DiskState). x.cursor) c.disk.ensures in
-    let at = c.block_unit-unit.ensures ∙ ap (unit_of_block c.self.inside.job.shape d) cursor in
-    let inside = advance-unit s d is lt (advances s d is lt goes).ahead in
-    let lengths = (shown-view s is).lists.issued in
-    let long : c.self.inside.issued.len ≡ length c.self.inside.issued.items = c.self.inside.issued.ok.0 in
-    omega (arith, at)
+pub settle-requires : goal.settle-requires
+settle-requires g c =
+    let h = c.self.inside in
+    let s = state_of h.job h.journal.items h.history.entries h.phase h.stun h.source h.dest h.streams h.back h.reads.items in
+    let of = advance-of s _ c.args.disk c.len.result c.advance-turn.result c.advance-turn.new.self c.self.invariant.0 c.self.view_is c.requires c.if-not-is_running.ensures c.len.ensures.exactly c.advance-turn.ensures.step c.advance-turn.ensures.call in
+    record { room = room-for s _ c.advance-turn.result _ _ _ _ c.self.invariant.0 of c.self.invariant.1.journal }
 
-pub issue-requires-clause-countable : goal.issue-requires-clause-countable
-issue-requires-clause-countable c =
-    let s = state_of c.self.inside in
-    let is = c.self.invariant.0 in
-    let d = c.args.disk in
-    let lt = seen-disk s c.args.self.now d c.self.view_is c.requires.disk_in in
-    let goes = seen-goes s c.args.self.now (Advance d) c.self.view_is c.requires.goes_on in
-    let cursor : c.cursor.result ≡ (copy s d).cursor = c.cursor.ensures ∙ ap (λ (x : DiskState). x.cursor) c.disk.ensures in
-    let at = c.block_unit-unit.ensures ∙ ap (unit_of_block c.self.inside.job.shape d) cursor in
-    let none : number c.self.inside.issued.items (block-unit s d) ≡ 0 = unmade s d is lt (advances s d is lt goes).ahead in
-    subst (λ n. slice_index c.self.inside.issued.items n + 1 < 4294967296) (sym at) (omega arith)
-
-pub invariant_of-self-2 : goal.invariant_of-self-2
-invariant_of-self-2 c =
-    let s = state_of c.self.inside in
-    let is = c.self.invariant.0 in
-    let d = c.args.disk in
-    let lt = seen-disk s c.args.self.now d c.self.view_is c.requires.disk_in in
-    let goes = seen-goes s c.args.self.now (Advance d) c.self.view_is c.requires.goes_on in
-    let cursor : c.cursor.result ≡ (copy s d).cursor = c.cursor.ensures ∙ ap (λ (x : DiskState). x.cursor) c.disk.ensures in
-    let at = c.block_unit-unit.ensures ∙ ap (unit_of_block c.self.inside.job.shape d) cursor in
-    let journal = entered s c.reserve.new.self.items (Advance d) _ c.recorded.result c.recorded.new.journal.items c.reserve.ensures.items c.recorded.ensures.entry (advance-answer s d is lt goes) c.recorded.ensures.answer in (
-      advance-holds s d is lt c.recorded.new.journal.items c.block_unit-unit.result c.issue.result c.len-at.result c.advance-content.result c.advance-content.new.self c.issue.new.outbox.items c.issue.new.issued.items goes journal
-          at c.advance-content.ensures.block c.len-at.ensures.exactly c.issue.ensures.version c.issue.ensures.issued
-          (c.issue.ensures.made ∙ ap (λ (xs : List Message). xs ++ record { head = record { unit = c.block_unit-unit.result; version = c.issue.result; at = c.len-at.result }; content = c.advance-content.result } ∷ []) c.reserve-else-is_err.ensures.items)
-          c.advance-content.ensures.behind,
-      c.self.invariant.1,
-    )
+pub invariant_of-self : goal.invariant_of-self
+invariant_of-self g c =
+    let h = c.self.inside in
+    let s = state_of h.job h.journal.items h.history.entries h.phase h.stun h.source h.dest h.streams h.back h.reads.items in
+    let of = advance-of s _ c.args.disk c.len.result c.advance-turn.result c.advance-turn.new.self c.self.invariant.0 c.self.view_is c.requires c.if-not-is_running.ensures c.len.ensures.exactly c.advance-turn.ensures.step c.advance-turn.ensures.call in
+    let e = c.settle.ensures in
+    (stays-settled s _ _ c.advance-turn.result c.advance-turn.new.self c.self.invariant.0 of (record { rest = refl; journal = e.journal; phase = e.phase; going = e.going; given_up = e.given_up }), rooms-stay _ _ _ _ _ _ c.self.invariant.1 e.reserved)
 
 pub returns : goal.returns
-returns c =
-    let s = state_of c.self.inside in
-    let is = c.self.invariant.0 in
-    let d = c.args.disk in
-    let lt = seen-disk s c.args.self.now d c.self.view_is c.requires.disk_in in
-    let goes = seen-goes s c.args.self.now (Advance d) c.self.view_is c.requires.goes_on in
-    done-quietly s c.args.self.now _ (Advance d) _ c.recorded.result c.self.view_is refl
-    (entered s c.reserve.new.self.items (Advance d) _ c.recorded.result c.recorded.new.journal.items c.reserve.ensures.items c.recorded.ensures.entry (advance-answer s d is lt goes) c.recorded.ensures.answer)
-    refl refl goes (advance-answer s d is lt goes) c.recorded.ensures.answer
+returns g c =
+    let h = c.self.inside in
+    let s = state_of h.job h.journal.items h.history.entries h.phase h.stun h.source h.dest h.streams h.back h.reads.items in
+    let t = state_of h.job c.settle.new.journal.items h.history.entries c.settle.new.phase h.stun c.settle.new.source h.dest h.streams h.back h.reads.items in
+    let of = advance-of s _ c.args.disk c.len.result c.advance-turn.result c.advance-turn.new.self c.self.invariant.0 c.self.view_is c.requires c.if-not-is_running.ensures c.len.ensures.exactly c.advance-turn.ensures.step c.advance-turn.ensures.call in
+    let e = c.settle.ensures in
+    steps-settled s t _ _ c.advance-turn.result c.settle.result c.advance-turn.new.self c.self.invariant.0 c.self.view_is e.answer of (record { rest = refl; journal = e.journal; phase = e.phase; going = e.going; given_up = e.given_up })

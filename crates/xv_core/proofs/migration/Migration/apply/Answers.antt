@@ -1,76 +1,53 @@
-use Rattle.std.proofs.Common.{◌≡◌, ap, ◌∙◌, List, ℕ}
-use Rattle.std.specs.Prelude.{false, remove, set}
-use Rattle.xv_model.specs.Job.{units}
-use Rattle.xv_model.specs.View.{first_next}
-use Rattle.xv_model.specs.Effect.{note}
-use Rattle.xv_device.specs.Device.{WriteUnit}
-use Rattle.xv_device.specs.Memory.{after}
+use Rattle.std.proofs.Common.{false, refl, sym, ◌∙◌}
 use Rattle.xv_base.specs.declared.event.Event.TheVariants.{Apply}
-use Rattle.xv_core.specs.State.{heads}
-use Rattle.xv_core.specs.Fields.{state_of}
-use Rattle.xv_core.specs.declared.message.Message.{Message}
-use Rattle.xv_core.proofs.Arrival.{next_place, next_message, apply-fits}
-use Rattle.xv_core.proofs.Arrived.{entered, goes_on, found, may_write, apply-kept, apply-told}
+use Rattle.xv_core.specs.State.{state_of}
+use Rattle.xv_core.proofs.ConditionsCalls.{apply-few}
+use Rattle.xv_core.proofs.CountsRoom.{dest-countable}
+use Rattle.xv_core.proofs.MovedByDest.{after_apply}
+use Rattle.xv_core.proofs.MovedEvents.{apply-of, none-seen, apply-live}
+use Rattle.xv_core.proofs.MovedSettled.{room-for, stays-settled, steps-settled, rooms-stay}
 use Rattle.xv_core.proofs.migration.Migration.apply.Goals as goal
 
-pub write-requires-clause-unit_in : goal.write-requires-clause-unit_in
-write-requires-clause-unit_in c =
-    let s = state_of c.self.inside in
-    let goes = goes_on s c.args.self.now Apply c.self.view_is c.requires in
-    let place : c.first_next.result ≡ next_place s = c.first_next.ensures ∙ ap (λ (xs : List ℕ). first_next xs (heads c.self.inside.held.items)) c.deref.ensures.value in
-    let message = found s c.in-Some.message c.first_next.result (apply-fits s c.self.invariant.0 goes) place c.in-Some.ensures.value in
-    (may_write s c.in-Some.message c.self.invariant.0 goes message).unit_in
+pub apply-turn-requires-clause-few : goal.apply-turn-requires-clause-few
+apply-turn-requires-clause-few g c =
+    let h = c.self.inside in
+    let s = state_of h.job h.journal.items h.history.entries h.phase h.stun h.source h.dest h.streams h.back h.reads.items in
+    apply-few s false c.self.invariant.0.running (none-seen s _ Apply c.self.view_is (sym c.apply_wait.ensures ∙ c.in_default.is))
 
-pub write-requires-clause-whole : goal.write-requires-clause-whole
-write-requires-clause-whole c =
-    let s = state_of c.self.inside in
-    let goes = goes_on s c.args.self.now Apply c.self.view_is c.requires in
-    let place : c.first_next.result ≡ next_place s = c.first_next.ensures ∙ ap (λ (xs : List ℕ). first_next xs (heads c.self.inside.held.items)) c.deref.ensures.value in
-    let message = found s c.in-Some.message c.first_next.result (apply-fits s c.self.invariant.0 goes) place c.in-Some.ensures.value in
-    rw c.bytes.ensures (may_write s c.in-Some.message c.self.invariant.0 goes message).whole
+pub apply-turn-requires-clause-countable : goal.apply-turn-requires-clause-countable
+apply-turn-requires-clause-countable g c =
+    let h = c.self.inside in
+    let s = state_of h.job h.journal.items h.history.entries h.phase h.stun h.source h.dest h.streams h.back h.reads.items in
+    dest-countable s c.self.invariant.0
 
-pub write-requires-clause-few : goal.write-requires-clause-few
-write-requires-clause-few c =
-    let s = state_of c.self.inside in
-    let goes = goes_on s c.args.self.now Apply c.self.view_is c.requires in
-    let place : c.first_next.result ≡ next_place s = c.first_next.ensures ∙ ap (λ (xs : List ℕ). first_next xs (heads c.self.inside.held.items)) c.deref.ensures.value in
-    let message = found s c.in-Some.message c.first_next.result (apply-fits s c.self.invariant.0 goes) place c.in-Some.ensures.value in
-    (may_write s c.in-Some.message c.self.invariant.0 goes message).few
+pub settle-requires : goal.settle-requires
+settle-requires g c =
+    let h = c.self.inside in
+    let s = state_of h.job h.journal.items h.history.entries h.phase h.stun h.source h.dest h.streams h.back h.reads.items in
+    let e = c.apply-turn.ensures in
+    let of = apply-of s c.apply-turn.result c.apply-turn.new.self c.self.invariant.0 (apply-live s c.self.invariant.0 (none-seen s _ Apply c.self.view_is (sym c.apply_wait.ensures ∙ c.in_default.is)))
+    (record { step = e.step; bytes = e.bytes; call = e.call; whole = e.whole }) in
+    record { room = room-for s _ _ c.apply-turn.result _ c.self.invariant.0 of c.self.invariant.1.journal }
 
-pub index_mut-requires : goal.index_mut-requires
-index_mut-requires c =
-    let s = state_of c.self.inside in
-    let goes = goes_on s c.args.self.now Apply c.self.view_is c.requires in
-    let place : c.first_next.result ≡ next_place s = c.first_next.ensures ∙ ap (λ (xs : List ℕ). first_next xs (heads c.self.inside.held.items)) c.deref.ensures.value in
-    let message = found s c.in-Some.message c.first_next.result (apply-fits s c.self.invariant.0 goes) place c.in-Some.ensures.value in
-    let within = (may_write s c.in-Some.message c.self.invariant.0 goes message).within in
-    rw c.self.inside.applied.ok.0 within
-
-pub invariant_of-self-2 : goal.invariant_of-self-2
-invariant_of-self-2 c =
-    let s = state_of c.self.inside in
-    let goes = goes_on s c.args.self.now Apply c.self.view_is c.requires in
-    let place : c.first_next.result ≡ next_place s = c.first_next.ensures ∙ ap (λ (xs : List ℕ). first_next xs (heads c.self.inside.held.items)) c.deref.ensures.value in
-    let message = found s c.in-Some.message c.first_next.result (apply-fits s c.self.invariant.0 goes) place c.in-Some.ensures.value in
-    let head = (next_message s).head in
-    let journal = entered s Apply head.unit.0 head.version c.recorded.result c.reserve.new.self.items c.recorded.new.journal.items c.reserve.ensures.items (c.recorded.ensures.answer ∙ ap (λ (m : Message). note m.head.unit.0 m.head.version) message) c.recorded.ensures.entry in
-    let dest : c.write.new.self ≡ after (WriteUnit head.unit.0 (next_message s).content) false c.self.inside.dest =
-    c.in-Ok.ensures.after
-    ∙ ap (λ (b : List ℕ). after (WriteUnit c.in-Some.message.head.unit.0 b) false c.self.inside.dest) c.bytes.ensures
-    ∙ ap (λ (m : Message). after (WriteUnit m.head.unit.0 m.content) false c.self.inside.dest) message in
-    let held : c.remove.new.self.items ≡ remove c.self.inside.held.items (next_place s) = c.in-Some.ensures.items ∙ ap (remove c.self.inside.held.items) place in
-    let applied : set c.self.inside.applied.items c.in-Some.message.head.unit.0 c.in-Some.message.head.version ≡ set c.self.inside.applied.items head.unit.0 head.version =
-    ap (λ (m : Message). set c.self.inside.applied.items m.head.unit.0 m.head.version) message in
-    let long = c.in-Ok.ensures.sized.writes_each ∙ ap units c.self.invariant.0.dest_shape in
-    (apply-kept s c.self.invariant.0 c.recorded.new.journal.items c.write.new.self c.remove.new.self.items _ goes long journal dest held applied, c.self.invariant.1)
+pub invariant_of-self : goal.invariant_of-self
+invariant_of-self g c =
+    let h = c.self.inside in
+    let s = state_of h.job h.journal.items h.history.entries h.phase h.stun h.source h.dest h.streams h.back h.reads.items in
+    let e = c.apply-turn.ensures in
+    let of = apply-of s c.apply-turn.result c.apply-turn.new.self c.self.invariant.0 (apply-live s c.self.invariant.0 (none-seen s _ Apply c.self.view_is (sym c.apply_wait.ensures ∙ c.in_default.is)))
+    (record { step = e.step; bytes = e.bytes; call = e.call; whole = e.whole }) in
+    let r = c.settle.ensures in (
+      stays-settled s (after_apply s c.apply-turn.new.self) _ _ c.apply-turn.result c.self.invariant.0 of (record { rest = refl; journal = r.journal; phase = r.phase; going = r.going; given_up = r.given_up }),
+      rooms-stay _ _ _ _ _ _ c.self.invariant.1 r.reserved,
+    )
 
 pub returns : goal.returns
-returns c =
-    let s = state_of c.self.inside in
-    let goes = goes_on s c.args.self.now Apply c.self.view_is c.requires in
-    let place : c.first_next.result ≡ next_place s = c.first_next.ensures ∙ ap (λ (xs : List ℕ). first_next xs (heads c.self.inside.held.items)) c.deref.ensures.value in
-    let message = found s c.in-Some.message c.first_next.result (apply-fits s c.self.invariant.0 goes) place c.in-Some.ensures.value in
-    let head = (next_message s).head in
-    let answer = c.recorded.ensures.answer ∙ ap (λ (m : Message). note m.head.unit.0 m.head.version) message in
-    let journal = entered s Apply head.unit.0 head.version c.recorded.result c.reserve.new.self.items c.recorded.new.journal.items c.reserve.ensures.items answer c.recorded.ensures.entry in
-    apply-told s c.self.invariant.0 c.args.self.now c.recorded.result c.recorded.new.journal.items c.write.new.self c.self.view_is goes answer journal
+returns g c =
+    let h = c.self.inside in
+    let s = state_of h.job h.journal.items h.history.entries h.phase h.stun h.source h.dest h.streams h.back h.reads.items in
+    let t = state_of h.job c.settle.new.journal.items h.history.entries c.settle.new.phase h.stun c.settle.new.source c.apply-turn.new.self h.streams h.back h.reads.items in
+    let e = c.apply-turn.ensures in
+    let of = apply-of s c.apply-turn.result c.apply-turn.new.self c.self.invariant.0 (apply-live s c.self.invariant.0 (none-seen s _ Apply c.self.view_is (sym c.apply_wait.ensures ∙ c.in_default.is)))
+    (record { step = e.step; bytes = e.bytes; call = e.call; whole = e.whole }) in
+    let r = c.settle.ensures in
+    steps-settled s (after_apply s c.apply-turn.new.self) t _ _ c.apply-turn.result c.settle.result c.self.invariant.0 c.self.view_is r.answer of (record { rest = refl; journal = r.journal; phase = r.phase; going = r.going; given_up = r.given_up })

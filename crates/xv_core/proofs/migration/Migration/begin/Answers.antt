@@ -1,29 +1,43 @@
-use Rattle.std.proofs.Common.{refl, sym, subst}
-use Rattle.xv_core.specs.State.{IsState}
-use Rattle.xv_core.specs.Fields.{state_of}
-use Rattle.xv_core.proofs.Done.{seen-goes, seen-disk, entered, done-quietly}
-use Rattle.xv_core.proofs.Copying.{begin-holds, begin-answer}
+use Rattle.std.proofs.Common.{refl}
 use Rattle.xv_base.specs.declared.event.Event.TheVariants.{Begin}
+use Rattle.xv_core.specs.State.{state_of}
+use Rattle.xv_core.proofs.SourceEvents.{disk-of-half, begin-of}
+use Rattle.xv_core.proofs.SourceSettled.{room-for, stays-settled, steps-settled, rooms-stay}
+use Rattle.xv_core.proofs.SourceWaits.{copy-not-now, waits-as}
 use Rattle.xv_core.proofs.migration.Migration.begin.Goals as goal
 
-pub invariant_of-self-2 : goal.invariant_of-self-2
-invariant_of-self-2 c =
-    let s = state_of c.self.inside in
-    let is = c.self.invariant.0 in
-    let d = c.args.disk in
-    let lt = seen-disk s c.args.self.now d c.self.view_is c.requires.disk_in in
-    let goes = seen-goes s c.args.self.now (Begin d) c.self.view_is c.requires.goes_on in
-    let j = c.recorded.new.journal.items in
-    let journal = entered s c.reserve.new.self.items (Begin d) _ c.recorded.result j c.reserve.ensures.items c.recorded.ensures.entry (begin-answer s d is lt goes) c.recorded.ensures.answer in
-    (subst (λ ds. IsState (record s { journal = j; disks = ds })) (sym c.begin.ensures) (begin-holds s d is lt j goes journal), c.self.invariant.1)
+pub begin-turn-requires : goal.begin-turn-requires
+begin-turn-requires g c =
+    let h = c.self.inside in
+    let s = state_of h.job h.journal.items h.history.entries h.phase h.stun h.source h.dest h.streams h.back h.reads.items in
+    disk-of-half s _ c.args.disk c.self.invariant.0 c.self.view_is c.requires
+
+pub returns-then-not-is_running : goal.returns-then-not-is_running
+returns-then-not-is_running g c =
+    let h = c.self.inside in
+    let s = state_of h.job h.journal.items h.history.entries h.phase h.stun h.source h.dest h.streams h.back h.reads.items in
+    waits-as s _ (Begin c.args.disk) _ c.self.view_is (copy-not-now s (Begin c.args.disk) c.self.invariant.0 refl c.if-not-is_running.ensures)
+
+pub settle-requires : goal.settle-requires
+settle-requires g c =
+    let h = c.self.inside in
+    let s = state_of h.job h.journal.items h.history.entries h.phase h.stun h.source h.dest h.streams h.back h.reads.items in
+    let of = begin-of s _ c.args.disk c.begin-turn.result c.begin-turn.new.self c.self.invariant.0 c.self.view_is c.requires c.if-not-is_running.ensures c.begin-turn.ensures.step c.begin-turn.ensures.call in
+    record { room = room-for s _ c.begin-turn.result _ _ _ _ c.self.invariant.0 of c.self.invariant.1.journal }
+
+pub invariant_of-self : goal.invariant_of-self
+invariant_of-self g c =
+    let h = c.self.inside in
+    let s = state_of h.job h.journal.items h.history.entries h.phase h.stun h.source h.dest h.streams h.back h.reads.items in
+    let of = begin-of s _ c.args.disk c.begin-turn.result c.begin-turn.new.self c.self.invariant.0 c.self.view_is c.requires c.if-not-is_running.ensures c.begin-turn.ensures.step c.begin-turn.ensures.call in
+    let e = c.settle.ensures in
+    (stays-settled s _ _ c.begin-turn.result c.begin-turn.new.self c.self.invariant.0 of (record { rest = refl; journal = e.journal; phase = e.phase; going = e.going; given_up = e.given_up }), rooms-stay _ _ _ _ _ _ c.self.invariant.1 e.reserved)
 
 pub returns : goal.returns
-returns c =
-    let s = state_of c.self.inside in
-    let is = c.self.invariant.0 in
-    let d = c.args.disk in
-    let lt = seen-disk s c.args.self.now d c.self.view_is c.requires.disk_in in
-    let goes = seen-goes s c.args.self.now (Begin d) c.self.view_is c.requires.goes_on in
-    done-quietly s c.args.self.now _ (Begin d) _ c.recorded.result c.self.view_is refl
-    (entered s c.reserve.new.self.items (Begin d) _ c.recorded.result c.recorded.new.journal.items c.reserve.ensures.items c.recorded.ensures.entry (begin-answer s d is lt goes) c.recorded.ensures.answer)
-    refl refl goes (begin-answer s d is lt goes) c.recorded.ensures.answer
+returns g c =
+    let h = c.self.inside in
+    let s = state_of h.job h.journal.items h.history.entries h.phase h.stun h.source h.dest h.streams h.back h.reads.items in
+    let t = state_of h.job c.settle.new.journal.items h.history.entries c.settle.new.phase h.stun c.settle.new.source h.dest h.streams h.back h.reads.items in
+    let of = begin-of s _ c.args.disk c.begin-turn.result c.begin-turn.new.self c.self.invariant.0 c.self.view_is c.requires c.if-not-is_running.ensures c.begin-turn.ensures.step c.begin-turn.ensures.call in
+    let e = c.settle.ensures in
+    steps-settled s t _ _ c.begin-turn.result c.settle.result c.begin-turn.new.self c.self.invariant.0 c.self.view_is e.answer of (record { rest = refl; journal = e.journal; phase = e.phase; going = e.going; given_up = e.given_up })

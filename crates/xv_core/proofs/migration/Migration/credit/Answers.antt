@@ -1,15 +1,52 @@
-use Rattle.std.proofs.Common.{◌≡◌, ap, sym, ◌∙◌, List, ℕ}
-use Rattle.xv_model.specs.View.{number}
-use Rattle.xv_model.specs.Effect.{note}
+use Rattle.std.proofs.Common.{refl, sym, ◌∙◌}
 use Rattle.xv_base.specs.declared.event.Event.TheVariants.{Credit}
-use Rattle.xv_core.specs.Fields.{state_of}
-use Rattle.xv_core.proofs.Arrived.{entered, goes_on, credit-kept}
+use Rattle.xv_core.specs.State.{state_of}
+use Rattle.xv_core.proofs.ConditionsCalls.{credit-within}
+use Rattle.xv_core.proofs.MovedBySource.{after_credit}
+use Rattle.xv_core.proofs.MovedEvents.{credit-of, waits-not-live}
+use Rattle.xv_core.proofs.MovedSettled.{room-for, stays-settled, steps-settled, rooms-stay}
 use Rattle.xv_core.proofs.migration.Migration.credit.Goals as goal
 
-pub invariant_of-self-2 : goal.invariant_of-self-2
-invariant_of-self-2 c =
-    let s = state_of c.self.inside in
-    let goes = goes_on s c.args.self.now Credit c.self.view_is c.requires in
-    let count : c.in-Some.count ≡ number c.self.inside.acks.items 0 = sym (ap (λ (xs : List ℕ). number xs 0) c.in-Some.ensures.items) in
-    let journal = entered s Credit (number c.self.inside.acks.items 0) 0 c.recorded.result c.reserve.new.self.items c.recorded.new.journal.items c.reserve.ensures.items (c.recorded.ensures.answer ∙ ap (λ (n : ℕ). note n 0) count) c.recorded.ensures.entry in
-    (credit-kept s c.self.invariant.0 c.recorded.new.journal.items c.pop_front.new.self.items c.in-Some.count goes count journal c.in-Some.ensures.rest, c.self.invariant.1)
+pub returns-then-not-is_live : goal.returns-then-not-is_live
+returns-then-not-is_live g c =
+    let h = c.self.inside in
+    let s = state_of h.job h.journal.items h.history.entries h.phase h.stun h.source h.dest h.streams h.back h.reads.items in
+    waits-not-live s _ Credit c.self.invariant.0 c.self.view_is refl (sym c.is_live.ensures ∙ c.if-not-is_live.true)
+
+pub credit-turn-requires : goal.credit-turn-requires
+credit-turn-requires g c =
+    let h = c.self.inside in
+    let s = state_of h.job h.journal.items h.history.entries h.phase h.stun h.source h.dest h.streams h.back h.reads.items in
+    credit-within s c.self.invariant.0.running
+
+pub settle-requires : goal.settle-requires
+settle-requires g c =
+    let h = c.self.inside in
+    let s = state_of h.job h.journal.items h.history.entries h.phase h.stun h.source h.dest h.streams h.back h.reads.items in
+    let e = c.credit-turn.ensures in
+    let of = credit-of s c.credit-turn.result c.credit-turn.new.self c.credit-turn.new.back c.self.invariant.0 (sym c.is_live.ensures ∙ c.if-not-is_live.false)
+    (record { step = e.step; call = e.call; taken = e.taken; carried = c.waiting.ensures.carried }) in
+    record { room = room-for s _ _ c.credit-turn.result _ c.self.invariant.0 of c.self.invariant.1.journal }
+
+pub invariant_of-self : goal.invariant_of-self
+invariant_of-self g c =
+    let h = c.self.inside in
+    let s = state_of h.job h.journal.items h.history.entries h.phase h.stun h.source h.dest h.streams h.back h.reads.items in
+    let e = c.credit-turn.ensures in
+    let of = credit-of s c.credit-turn.result c.credit-turn.new.self c.credit-turn.new.back c.self.invariant.0 (sym c.is_live.ensures ∙ c.if-not-is_live.false)
+    (record { step = e.step; call = e.call; taken = e.taken; carried = c.waiting.ensures.carried }) in
+    let r = c.settle.ensures in (
+      stays-settled s (after_credit s c.credit-turn.new.self c.credit-turn.new.back) _ _ c.credit-turn.result c.self.invariant.0 of (record { rest = refl; journal = r.journal; phase = r.phase; going = r.going; given_up = r.given_up }),
+      rooms-stay _ _ _ _ _ _ c.self.invariant.1 r.reserved,
+    )
+
+pub returns : goal.returns
+returns g c =
+    let h = c.self.inside in
+    let s = state_of h.job h.journal.items h.history.entries h.phase h.stun h.source h.dest h.streams h.back h.reads.items in
+    let t = state_of h.job c.settle.new.journal.items h.history.entries c.settle.new.phase h.stun c.settle.new.source h.dest h.streams c.credit-turn.new.back h.reads.items in
+    let e = c.credit-turn.ensures in
+    let of = credit-of s c.credit-turn.result c.credit-turn.new.self c.credit-turn.new.back c.self.invariant.0 (sym c.is_live.ensures ∙ c.if-not-is_live.false)
+    (record { step = e.step; call = e.call; taken = e.taken; carried = c.waiting.ensures.carried }) in
+    let r = c.settle.ensures in
+    steps-settled s (after_credit s c.credit-turn.new.self c.credit-turn.new.back) t _ _ c.credit-turn.result c.settle.result c.self.invariant.0 c.self.view_is r.answer of (record { rest = refl; journal = r.journal; phase = r.phase; going = r.going; given_up = r.given_up })

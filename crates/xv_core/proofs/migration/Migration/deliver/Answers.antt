@@ -1,27 +1,52 @@
-use Rattle.std.proofs.Common.{◌++◌, ◌∷◌, [], get_or, refl, ap, ◌∙◌}
-use Rattle.xv_core.specs.State.{no_content}
-use Rattle.xv_core.specs.Fields.{state_of}
-use Rattle.xv_core.proofs.Stream.{deliver-some, deliver-answer, deliver-state}
-use Rattle.xv_core.proofs.Stays.{goes-from, step-made}
-use Rattle.xv_core.proofs.migration.Migration.deliver.Goals as goal
+use Rattle.std.proofs.Common.{refl, sym, ◌∙◌}
 use Rattle.xv_base.specs.declared.event.Event.TheVariants.{Deliver}
+use Rattle.xv_core.specs.State.{state_of}
+use Rattle.xv_core.proofs.ConditionsCalls.{can-take}
+use Rattle.xv_core.proofs.MovedByDest.{after_deliver}
+use Rattle.xv_core.proofs.MovedEvents.{deliver-of, waits-not-live}
+use Rattle.xv_core.proofs.MovedSettled.{room-for, stays-settled, steps-settled, rooms-stay}
+use Rattle.xv_core.proofs.migration.Migration.deliver.Goals as goal
 
-pub moved-head-requires-clause-some : goal.moved-head-requires-clause-some
-moved-head-requires-clause-some c =
-    deliver-some (state_of c.self.inside) c.self.invariant.0 (goes-from (state_of c.self.inside) c.args.self.now (Deliver 0) c.self.view_is c.requires)
+pub returns-then-not-is_live : goal.returns-then-not-is_live
+returns-then-not-is_live g c =
+    let h = c.self.inside in
+    let s = state_of h.job h.journal.items h.history.entries h.phase h.stun h.source h.dest h.streams h.back h.reads.items in
+    waits-not-live s _ (Deliver c.args.stream) c.self.invariant.0 c.self.view_is refl (sym c.is_live.ensures ∙ c.if-not-is_live.true)
 
-pub invariant_of-self-2 : goal.invariant_of-self-2
-invariant_of-self-2 c =
-    let goes = goes-from (state_of c.self.inside) c.args.self.now (Deliver 0) c.self.view_is c.requires in (
-      deliver-state (state_of c.self.inside) _ c.recorded.result c.moved-head.result _ _ c.self.invariant.0 goes c.moved-head.ensures.head c.moved-head.ensures.left
-          (c.moved-head.ensures.come ∙ ap (λ x. x ++ get_or c.self.inside.stream.items 0 no_content ∷ []) c.reserve-else-is_err.ensures.items) c.recorded.ensures.answer
-          (c.recorded.ensures.entry ∙ ap (λ x. x ++ record { event = Deliver 0; turn = c.recorded.result } ∷ []) c.reserve.ensures.items),
-      c.self.invariant.1,
+pub deliver-turn-requires-clause-may_take : goal.deliver-turn-requires-clause-may_take
+deliver-turn-requires-clause-may_take g c =
+    let h = c.self.inside in
+    let s = state_of h.job h.journal.items h.history.entries h.phase h.stun h.source h.dest h.streams h.back h.reads.items in
+    can-take s c.args.stream c.self.invariant.0.running
+
+pub settle-requires : goal.settle-requires
+settle-requires g c =
+    let h = c.self.inside in
+    let s = state_of h.job h.journal.items h.history.entries h.phase h.stun h.source h.dest h.streams h.back h.reads.items in
+    let e = c.deliver-turn.ensures in
+    let of = deliver-of s _ c.args.stream c.deliver-turn.result c.deliver-turn.new.self c.deliver-turn.new.streams c.self.invariant.0 c.self.view_is c.requires (sym c.is_live.ensures ∙ c.if-not-is_live.false)
+    (record { step = e.step; bytes = e.bytes; call = e.call; others = e.others; taken = e.taken; carried = c.hold_spellings.ensures.lanes }) in
+    record { room = room-for s _ _ c.deliver-turn.result _ c.self.invariant.0 of c.self.invariant.1.journal }
+
+pub invariant_of-self : goal.invariant_of-self
+invariant_of-self g c =
+    let h = c.self.inside in
+    let s = state_of h.job h.journal.items h.history.entries h.phase h.stun h.source h.dest h.streams h.back h.reads.items in
+    let e = c.deliver-turn.ensures in
+    let of = deliver-of s _ c.args.stream c.deliver-turn.result c.deliver-turn.new.self c.deliver-turn.new.streams c.self.invariant.0 c.self.view_is c.requires (sym c.is_live.ensures ∙ c.if-not-is_live.false)
+    (record { step = e.step; bytes = e.bytes; call = e.call; others = e.others; taken = e.taken; carried = c.hold_spellings.ensures.lanes }) in
+    let r = c.settle.ensures in (
+      stays-settled s (after_deliver s c.deliver-turn.new.self c.deliver-turn.new.streams) _ _ c.deliver-turn.result c.self.invariant.0 of (record { rest = refl; journal = r.journal; phase = r.phase; going = r.going; given_up = r.given_up }),
+      rooms-stay _ _ _ _ _ _ c.self.invariant.1 r.reserved,
     )
 
 pub returns : goal.returns
-returns c =
-    let goes = goes-from (state_of c.self.inside) c.args.self.now (Deliver 0) c.self.view_is c.requires in
-    step-made (state_of c.self.inside) c.args.self.now _ (Deliver 0) c.recorded.result _ c.self.view_is c.recorded.ensures.answer refl c.requires
-    (deliver-answer (state_of c.self.inside) c.moved-head.result c.self.invariant.0 goes c.moved-head.ensures.head)
-    (c.recorded.ensures.entry ∙ ap (λ x. x ++ record { event = Deliver 0; turn = c.recorded.result } ∷ []) c.reserve.ensures.items) refl refl
+returns g c =
+    let h = c.self.inside in
+    let s = state_of h.job h.journal.items h.history.entries h.phase h.stun h.source h.dest h.streams h.back h.reads.items in
+    let t = state_of h.job c.settle.new.journal.items h.history.entries c.settle.new.phase h.stun c.settle.new.source c.deliver-turn.new.self c.deliver-turn.new.streams h.back h.reads.items in
+    let e = c.deliver-turn.ensures in
+    let of = deliver-of s _ c.args.stream c.deliver-turn.result c.deliver-turn.new.self c.deliver-turn.new.streams c.self.invariant.0 c.self.view_is c.requires (sym c.is_live.ensures ∙ c.if-not-is_live.false)
+    (record { step = e.step; bytes = e.bytes; call = e.call; others = e.others; taken = e.taken; carried = c.hold_spellings.ensures.lanes }) in
+    let r = c.settle.ensures in
+    steps-settled s (after_deliver s c.deliver-turn.new.self c.deliver-turn.new.streams) t _ _ c.deliver-turn.result c.settle.result c.self.invariant.0 c.self.view_is r.answer of (record { rest = refl; journal = r.journal; phase = r.phase; going = r.going; given_up = r.given_up })

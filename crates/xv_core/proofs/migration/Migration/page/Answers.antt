@@ -1,46 +1,51 @@
-use Rattle.std.proofs.Common.{◌<◌, ◌+◌, ◌++◌, ◌∷◌, [], rules, refl, ap, sym, subst, ◌∙◌}
-use Rattle.xv_base.specs.Units.{Shape, units}
-use Rattle.xv_core.specs.Fields.{state_of}
-use Rattle.xv_core.proofs.Pages.{page-answer, page-state, page-fits, page-made, page-few}
-use Rattle.xv_core.proofs.Stays.{goes-from, step-made}
-use Rattle.xv_core.proofs.migration.Migration.page.Goals as goal
+use Rattle.std.proofs.Common.{refl}
 use Rattle.xv_base.specs.declared.event.Event.TheVariants.{Page}
+use Rattle.xv_core.specs.State.{state_of}
+use Rattle.xv_core.proofs.ConditionsCounts.{few-versions}
+use Rattle.xv_core.proofs.CountsRoom.{source-countable}
+use Rattle.xv_core.proofs.SourceEvents.{page-of}
+use Rattle.xv_core.proofs.SourceSettled.{room-for, stays-settled, steps-settled, rooms-stay}
+use Rattle.xv_core.proofs.SourceWaits.{copy-not-now, waits-as}
+use Rattle.xv_core.proofs.migration.Migration.page.Goals as goal
 
-pub content_of-requires-clause-unit_in : goal.content_of-requires-clause-unit_in
-content_of-requires-clause-unit_in c =
-    let fits = page-fits (state_of c.self.inside) c.self.invariant.0 (goes-from (state_of c.self.inside) c.args.self.now Page c.self.view_is c.requires) in
-    subst (λ (x : Shape). c.self.inside.next_page < units x) (sym c.self.invariant.0.source_shape) fits.in_units
+pub page-turn-requires-clause-few : goal.page-turn-requires-clause-few
+page-turn-requires-clause-few g c =
+    let h = c.self.inside in
+    let s = state_of h.job h.journal.items h.history.entries h.phase h.stun h.source h.dest h.streams h.back h.reads.items in
+    few-versions s c.self.invariant.0.running
 
-pub issue-version-requires-clause-unit_in : goal.issue-version-requires-clause-unit_in
-issue-version-requires-clause-unit_in c =
-    let fits = page-fits (state_of c.self.inside) c.self.invariant.0 (goes-from (state_of c.self.inside) c.args.self.now Page c.self.view_is c.requires) in
-    subst (λ n. c.self.inside.next_page < n) (sym c.self.inside.issued.ok.0) fits.in_issued
+pub page-turn-requires-clause-countable : goal.page-turn-requires-clause-countable
+page-turn-requires-clause-countable g c =
+    let h = c.self.inside in
+    let s = state_of h.job h.journal.items h.history.entries h.phase h.stun h.source h.dest h.streams h.back h.reads.items in
+    source-countable s c.self.invariant.0
 
-pub issue-version-requires-clause-countable : goal.issue-version-requires-clause-countable
-issue-version-requires-clause-countable c =
-    let fits = page-fits (state_of c.self.inside) c.self.invariant.0 (goes-from (state_of c.self.inside) c.args.self.now Page c.self.view_is c.requires) in
-    page-few _ fits.few
+pub returns-then-not-is_live : goal.returns-then-not-is_live
+returns-then-not-is_live g c =
+    let h = c.self.inside in
+    let s = state_of h.job h.journal.items h.history.entries h.phase h.stun h.source h.dest h.streams h.back h.reads.items in
+    waits-as s _ Page _ c.self.view_is (copy-not-now s Page c.self.invariant.0 refl c.if-not-is_live.ensures)
 
-pub overflow_add-self : goal.overflow_add-self
-overflow_add-self c =
-    let fits = page-fits (state_of c.self.inside) c.self.invariant.0 (goes-from (state_of c.self.inside) c.args.self.now Page c.self.view_is c.requires) in
-    let next : c.self.inside.next_page + 1 < 4294967296 = fits.next_fits in
-    search rules
+pub settle-requires : goal.settle-requires
+settle-requires g c =
+    let h = c.self.inside in
+    let s = state_of h.job h.journal.items h.history.entries h.phase h.stun h.source h.dest h.streams h.back h.reads.items in
+    let of = page-of s c.len.result c.page-turn.result c.page-turn.new.self c.self.invariant.0 c.if-not-is_live.ensures c.len.ensures.exactly c.page-turn.ensures.step c.page-turn.ensures.call in
+    record { room = room-for s _ c.page-turn.result _ _ _ _ c.self.invariant.0 of c.self.invariant.1.journal }
 
-pub invariant_of-self-2 : goal.invariant_of-self-2
-invariant_of-self-2 c =
-    let goes = goes-from (state_of c.self.inside) c.args.self.now Page c.self.view_is c.requires in (
-      page-state (state_of c.self.inside) _ c.recorded.result c.content_of.new.device _ _ c.in-Some.content c.issue-version.result c.self.invariant.0 goes
-          c.in-Some.ensures.read c.in-Some.ensures.content c.issue-version.ensures.version c.issue-version.ensures.issued
-          (page-made (state_of c.self.inside) _ c.reserve-else-is_err.new.self.items c.in-Some.content c.issue-version.result c.len-at.result c.reserve-else-is_err.ensures.items c.len-at.ensures.exactly c.issue-version.ensures.made)
-          c.recorded.ensures.answer
-          (c.recorded.ensures.entry ∙ ap (λ x. x ++ record { event = Page; turn = c.recorded.result } ∷ []) c.reserve.ensures.items),
-      c.self.invariant.1,
-    )
+pub invariant_of-self : goal.invariant_of-self
+invariant_of-self g c =
+    let h = c.self.inside in
+    let s = state_of h.job h.journal.items h.history.entries h.phase h.stun h.source h.dest h.streams h.back h.reads.items in
+    let of = page-of s c.len.result c.page-turn.result c.page-turn.new.self c.self.invariant.0 c.if-not-is_live.ensures c.len.ensures.exactly c.page-turn.ensures.step c.page-turn.ensures.call in
+    let e = c.settle.ensures in
+    (stays-settled s _ _ c.page-turn.result c.page-turn.new.self c.self.invariant.0 of (record { rest = refl; journal = e.journal; phase = e.phase; going = e.going; given_up = e.given_up }), rooms-stay _ _ _ _ _ _ c.self.invariant.1 e.reserved)
 
 pub returns : goal.returns
-returns c =
-    let goes = goes-from (state_of c.self.inside) c.args.self.now Page c.self.view_is c.requires in
-    step-made (state_of c.self.inside) c.args.self.now _ Page c.recorded.result _ c.self.view_is c.recorded.ensures.answer refl c.requires
-    (page-answer (state_of c.self.inside) c.issue-version.result c.self.invariant.0 goes c.issue-version.ensures.version)
-    (c.recorded.ensures.entry ∙ ap (λ x. x ++ record { event = Page; turn = c.recorded.result } ∷ []) c.reserve.ensures.items) refl refl
+returns g c =
+    let h = c.self.inside in
+    let s = state_of h.job h.journal.items h.history.entries h.phase h.stun h.source h.dest h.streams h.back h.reads.items in
+    let t = state_of h.job c.settle.new.journal.items h.history.entries c.settle.new.phase h.stun c.settle.new.source h.dest h.streams h.back h.reads.items in
+    let of = page-of s c.len.result c.page-turn.result c.page-turn.new.self c.self.invariant.0 c.if-not-is_live.ensures c.len.ensures.exactly c.page-turn.ensures.step c.page-turn.ensures.call in
+    let e = c.settle.ensures in
+    steps-settled s t _ _ c.page-turn.result c.settle.result c.page-turn.new.self c.self.invariant.0 c.self.view_is e.answer of (record { rest = refl; journal = e.journal; phase = e.phase; going = e.going; given_up = e.given_up })

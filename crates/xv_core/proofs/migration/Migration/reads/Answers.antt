@@ -1,6 +1,5 @@
-use Rattle.xv_core.specs.Fields.{state_of}
-use Rattle.xv_core.proofs.Telling.{kept-told}
+use Rattle.xv_core.proofs.SeenKept.{kept-seen}
 use Rattle.xv_core.proofs.migration.Migration.reads.Goals as goal
 
 pub returns-clause-kept : goal.returns-clause-kept
-returns-clause-kept c = kept-told (state_of c.self.inside) c.args.self.now c.self.invariant.0 c.self.view_is
+returns-clause-kept g c = kept-seen _ c.args.self.now c.self.invariant.0 c.self.view_is

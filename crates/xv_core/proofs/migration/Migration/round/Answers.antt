@@ -1,17 +1,44 @@
 use Rattle.std.proofs.Common.{refl}
-use Rattle.xv_core.specs.Fields.{state_of}
-use Rattle.xv_core.proofs.Pages.{round-answer, round-state}
-use Rattle.xv_core.proofs.Stays.{goes-from, step-made}
-use Rattle.xv_core.proofs.migration.Migration.round.Goals as goal
 use Rattle.xv_base.specs.declared.event.Event.TheVariants.{Round}
+use Rattle.xv_core.specs.State.{state_of}
+use Rattle.xv_core.proofs.ConditionsCounts.{few-rounds}
+use Rattle.xv_core.proofs.SourceEvents.{round-of}
+use Rattle.xv_core.proofs.SourceSettled.{room-for, stays-settled, steps-settled, rooms-stay}
+use Rattle.xv_core.proofs.SourceWaits.{copy-not-now, waits-as}
+use Rattle.xv_core.proofs.migration.Migration.round.Goals as goal
 
-pub invariant_of-self-2 : goal.invariant_of-self-2
-invariant_of-self-2 c =
-    let goes = goes-from (state_of c.self.inside) c.args.self.now Round c.self.view_is c.requires in
-    (round-state (state_of c.self.inside) _ c.recorded.result c.pages-count.result c.self.invariant.0 goes c.pages-count.ensures c.recorded.ensures.answer (cc), c.self.invariant.1)
+pub round-turn-requires : goal.round-turn-requires
+round-turn-requires g c =
+    let h = c.self.inside in
+    let s = state_of h.job h.journal.items h.history.entries h.phase h.stun h.source h.dest h.streams h.back h.reads.items in
+    record { few = few-rounds s c.self.invariant.0.running }
+
+pub returns-then-not-is_running : goal.returns-then-not-is_running
+returns-then-not-is_running g c =
+    let h = c.self.inside in
+    let s = state_of h.job h.journal.items h.history.entries h.phase h.stun h.source h.dest h.streams h.back h.reads.items in
+    waits-as s _ Round _ c.self.view_is (copy-not-now s Round c.self.invariant.0 refl c.if-not-is_running.ensures)
+
+pub settle-requires : goal.settle-requires
+settle-requires g c =
+    let h = c.self.inside in
+    let s = state_of h.job h.journal.items h.history.entries h.phase h.stun h.source h.dest h.streams h.back h.reads.items in
+    let of = round-of s c.round-turn.result c.round-turn.new.self c.may_go_beside.result c.self.invariant.0 c.if-not-is_running.ensures c.may_go_beside.ensures c.round-turn.ensures.step c.round-turn.ensures.call in
+    record { room = room-for s _ c.round-turn.result _ _ _ _ c.self.invariant.0 of c.self.invariant.1.journal }
+
+pub invariant_of-self : goal.invariant_of-self
+invariant_of-self g c =
+    let h = c.self.inside in
+    let s = state_of h.job h.journal.items h.history.entries h.phase h.stun h.source h.dest h.streams h.back h.reads.items in
+    let of = round-of s c.round-turn.result c.round-turn.new.self c.may_go_beside.result c.self.invariant.0 c.if-not-is_running.ensures c.may_go_beside.ensures c.round-turn.ensures.step c.round-turn.ensures.call in
+    let e = c.settle.ensures in
+    (stays-settled s _ _ c.round-turn.result c.round-turn.new.self c.self.invariant.0 of (record { rest = refl; journal = e.journal; phase = e.phase; going = e.going; given_up = e.given_up }), rooms-stay _ _ _ _ _ _ c.self.invariant.1 e.reserved)
 
 pub returns : goal.returns
-returns c =
-    let goes = goes-from (state_of c.self.inside) c.args.self.now Round c.self.view_is c.requires in
-    step-made (state_of c.self.inside) c.args.self.now _ Round c.recorded.result _ c.self.view_is c.recorded.ensures.answer refl c.requires
-    (round-answer (state_of c.self.inside) c.pages-count.result c.self.invariant.0 goes c.pages-count.ensures) (cc) refl refl
+returns g c =
+    let h = c.self.inside in
+    let s = state_of h.job h.journal.items h.history.entries h.phase h.stun h.source h.dest h.streams h.back h.reads.items in
+    let t = state_of h.job c.settle.new.journal.items h.history.entries c.settle.new.phase h.stun c.settle.new.source h.dest h.streams h.back h.reads.items in
+    let of = round-of s c.round-turn.result c.round-turn.new.self c.may_go_beside.result c.self.invariant.0 c.if-not-is_running.ensures c.may_go_beside.ensures c.round-turn.ensures.step c.round-turn.ensures.call in
+    let e = c.settle.ensures in
+    steps-settled s t _ _ c.round-turn.result c.settle.result c.round-turn.new.self c.self.invariant.0 c.self.view_is e.answer of (record { rest = refl; journal = e.journal; phase = e.phase; going = e.going; given_up = e.given_up })

@@ -1,32 +1,58 @@
-use Rattle.std.proofs.Common.{◌++◌, ◌∷◌, [], get_or, refl, ap, ◌∙◌, arith}
-use Rattle.xv_core.specs.State.{no_content}
-use Rattle.xv_core.specs.Fields.{state_of}
-use Rattle.xv_core.proofs.Stream.{send-some, send-answer, send-state}
-use Rattle.xv_core.proofs.Stays.{goes-from, step-made}
-use Rattle.xv_core.proofs.migration.Migration.send.Goals as goal
+use Rattle.std.proofs.Common.{refl, sym, ◌∙◌}
 use Rattle.xv_base.specs.declared.event.Event.TheVariants.{Send}
+use Rattle.xv_core.specs.State.{state_of}
+use Rattle.xv_core.proofs.ConditionsCalls.{source-has-room}
+use Rattle.xv_core.proofs.MovedBySource.{after_send}
+use Rattle.xv_core.proofs.MovedEvents.{stream-seen, lane-countable, send-of, waits-not-live}
+use Rattle.xv_core.proofs.MovedSettled.{room-for, stays-settled, steps-settled, rooms-stay}
+use Rattle.xv_core.proofs.migration.Migration.send.Goals as goal
 
-pub moved-head-requires-clause-some : goal.moved-head-requires-clause-some
-moved-head-requires-clause-some c =
-    (send-some (state_of c.self.inside) c.self.invariant.0 (goes-from (state_of c.self.inside) c.args.self.now (Send 0) c.self.view_is c.requires)).0
+pub returns-then-not-is_live : goal.returns-then-not-is_live
+returns-then-not-is_live g c =
+    let h = c.self.inside in
+    let s = state_of h.job h.journal.items h.history.entries h.phase h.stun h.source h.dest h.streams h.back h.reads.items in
+    waits-not-live s _ (Send c.args.stream) c.self.invariant.0 c.self.view_is refl (sym c.is_live.ensures ∙ c.if-not-is_live.true)
 
-pub overflow_sub-self : goal.overflow_sub-self
-overflow_sub-self c =
-    let some = send-some (state_of c.self.inside) c.self.invariant.0 (goes-from (state_of c.self.inside) c.args.self.now (Send 0) c.self.view_is c.requires) in
-    omega (arith, some.1)
+pub send-turn-requires-clause-room : goal.send-turn-requires-clause-room
+send-turn-requires-clause-room g c =
+    let h = c.self.inside in
+    let s = state_of h.job h.journal.items h.history.entries h.phase h.stun h.source h.dest h.streams h.back h.reads.items in
+    rw c.group_of-most.ensures (λ _ some. source-has-room s c.args.stream c.self.invariant.0.running (stream-seen s _ c.args.stream c.self.view_is c.requires) some)
 
-pub invariant_of-self-2 : goal.invariant_of-self-2
-invariant_of-self-2 c =
-    let goes = goes-from (state_of c.self.inside) c.args.self.now (Send 0) c.self.view_is c.requires in (
-      send-state (state_of c.self.inside) _ c.recorded.result c.moved-head.result _ _ _ c.self.invariant.0 goes c.moved-head.ensures.head c.moved-head.ensures.left
-          (c.moved-head.ensures.come ∙ ap (λ x. x ++ get_or c.self.inside.outbox.items 0 no_content ∷ []) c.reserve-else-is_err.ensures.items) refl c.recorded.ensures.answer
-          (c.recorded.ensures.entry ∙ ap (λ x. x ++ record { event = Send 0; turn = c.recorded.result } ∷ []) c.reserve.ensures.items),
-      c.self.invariant.1,
+pub send-turn-requires-clause-countable : goal.send-turn-requires-clause-countable
+send-turn-requires-clause-countable g c =
+    let h = c.self.inside in
+    let s = state_of h.job h.journal.items h.history.entries h.phase h.stun h.source h.dest h.streams h.back h.reads.items in
+    lane-countable s c.args.stream c.self.invariant.0
+
+pub settle-requires : goal.settle-requires
+settle-requires g c =
+    let h = c.self.inside in
+    let s = state_of h.job h.journal.items h.history.entries h.phase h.stun h.source h.dest h.streams h.back h.reads.items in
+    let e = c.send-turn.ensures in
+    let of = send-of s _ c.args.stream c.group_of-most.result c.send-turn.result c.send-turn.new.self c.send-turn.new.streams c.self.invariant.0 c.self.view_is c.requires (sym c.is_live.ensures ∙ c.if-not-is_live.false) c.group_of-most.ensures
+    (record { step = e.step; call = e.call; others = e.others; none_made = e.none_made; put = e.put; waits = e.waits; paired = c.pair_contents.ensures; carried = c.hold_spellings.ensures.lanes }) in
+    record { room = room-for s _ _ c.send-turn.result _ c.self.invariant.0 of c.self.invariant.1.journal }
+
+pub invariant_of-self : goal.invariant_of-self
+invariant_of-self g c =
+    let h = c.self.inside in
+    let s = state_of h.job h.journal.items h.history.entries h.phase h.stun h.source h.dest h.streams h.back h.reads.items in
+    let e = c.send-turn.ensures in
+    let of = send-of s _ c.args.stream c.group_of-most.result c.send-turn.result c.send-turn.new.self c.send-turn.new.streams c.self.invariant.0 c.self.view_is c.requires (sym c.is_live.ensures ∙ c.if-not-is_live.false) c.group_of-most.ensures
+    (record { step = e.step; call = e.call; others = e.others; none_made = e.none_made; put = e.put; waits = e.waits; paired = c.pair_contents.ensures; carried = c.hold_spellings.ensures.lanes }) in
+    let r = c.settle.ensures in (
+      stays-settled s (after_send s c.send-turn.new.self c.send-turn.new.streams) _ _ c.send-turn.result c.self.invariant.0 of (record { rest = refl; journal = r.journal; phase = r.phase; going = r.going; given_up = r.given_up }),
+      rooms-stay _ _ _ _ _ _ c.self.invariant.1 r.reserved,
     )
 
 pub returns : goal.returns
-returns c =
-    let goes = goes-from (state_of c.self.inside) c.args.self.now (Send 0) c.self.view_is c.requires in
-    step-made (state_of c.self.inside) c.args.self.now _ (Send 0) c.recorded.result _ c.self.view_is c.recorded.ensures.answer refl c.requires
-    (send-answer (state_of c.self.inside) c.moved-head.result c.self.invariant.0 goes c.moved-head.ensures.head)
-    (c.recorded.ensures.entry ∙ ap (λ x. x ++ record { event = Send 0; turn = c.recorded.result } ∷ []) c.reserve.ensures.items) refl refl
+returns g c =
+    let h = c.self.inside in
+    let s = state_of h.job h.journal.items h.history.entries h.phase h.stun h.source h.dest h.streams h.back h.reads.items in
+    let t = state_of h.job c.settle.new.journal.items h.history.entries c.settle.new.phase h.stun c.settle.new.source h.dest c.send-turn.new.streams h.back h.reads.items in
+    let e = c.send-turn.ensures in
+    let of = send-of s _ c.args.stream c.group_of-most.result c.send-turn.result c.send-turn.new.self c.send-turn.new.streams c.self.invariant.0 c.self.view_is c.requires (sym c.is_live.ensures ∙ c.if-not-is_live.false) c.group_of-most.ensures
+    (record { step = e.step; call = e.call; others = e.others; none_made = e.none_made; put = e.put; waits = e.waits; paired = c.pair_contents.ensures; carried = c.hold_spellings.ensures.lanes }) in
+    let r = c.settle.ensures in
+    steps-settled s (after_send s c.send-turn.new.self c.send-turn.new.streams) t _ _ c.send-turn.result c.settle.result c.self.invariant.0 c.self.view_is r.answer of (record { rest = refl; journal = r.journal; phase = r.phase; going = r.going; given_up = r.given_up })

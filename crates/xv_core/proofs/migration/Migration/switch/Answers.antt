@@ -1,18 +1,46 @@
+use Rattle.std.proofs.Common.{refl, sym, ◌∙◌}
 use Rattle.xv_base.specs.declared.event.Event.TheVariants.{Switch}
-use Rattle.xv_core.specs.Fields.{state_of}
-use Rattle.xv_core.proofs.Arrived.{entered, goes_on, switch-kept, switch-told}
+use Rattle.xv_core.specs.State.{state_of}
+use Rattle.xv_core.proofs.CountsRoom.{dest-countable}
+use Rattle.xv_core.proofs.MovedByDest.{after_switch}
+use Rattle.xv_core.proofs.MovedEvents.{switch-of, none-seen}
+use Rattle.xv_core.proofs.MovedSettled.{room-for, stays-settled, steps-settled, rooms-stay}
 use Rattle.xv_core.proofs.migration.Migration.switch.Goals as goal
 
-pub invariant_of-self-2 : goal.invariant_of-self-2
-invariant_of-self-2 c =
-    let s = state_of c.self.inside in
-    let goes = goes_on s c.args.self.now Switch c.self.view_is c.requires in
-    let journal = entered s Switch 0 0 c.recorded.result c.reserve.new.self.items c.recorded.new.journal.items c.reserve.ensures.items c.recorded.ensures.answer c.recorded.ensures.entry in
-    (switch-kept s c.self.invariant.0 c.recorded.new.journal.items c.flush.new.self goes journal c.in-Ok.ensures.after, c.self.invariant.1)
+pub flush-turn-requires : goal.flush-turn-requires
+flush-turn-requires g c =
+    let h = c.self.inside in
+    let s = state_of h.job h.journal.items h.history.entries h.phase h.stun h.source h.dest h.streams h.back h.reads.items in
+    record { countable = dest-countable s c.self.invariant.0 }
+
+pub settle-requires : goal.settle-requires
+settle-requires g c =
+    let h = c.self.inside in
+    let s = state_of h.job h.journal.items h.history.entries h.phase h.stun h.source h.dest h.streams h.back h.reads.items in
+    let e = c.flush-turn.ensures in
+    let of = switch-of s c.flush-turn.result c.flush-turn.new.self c.self.invariant.0 (none-seen s _ Switch c.self.view_is (sym c.switch_wait.ensures ∙ c.in_default.is))
+    (record { step = e.step; bytes = e.bytes; call = e.call }) in
+    record { room = room-for s _ _ c.flush-turn.result _ c.self.invariant.0 of c.self.invariant.1.journal }
+
+pub invariant_of-self : goal.invariant_of-self
+invariant_of-self g c =
+    let h = c.self.inside in
+    let s = state_of h.job h.journal.items h.history.entries h.phase h.stun h.source h.dest h.streams h.back h.reads.items in
+    let e = c.flush-turn.ensures in
+    let of = switch-of s c.flush-turn.result c.flush-turn.new.self c.self.invariant.0 (none-seen s _ Switch c.self.view_is (sym c.switch_wait.ensures ∙ c.in_default.is))
+    (record { step = e.step; bytes = e.bytes; call = e.call }) in
+    let r = c.settle.ensures in (
+      stays-settled s (after_switch s c.flush-turn.new.self) _ _ c.flush-turn.result c.self.invariant.0 of (record { rest = refl; journal = r.journal; phase = r.phase; going = r.going; given_up = r.given_up }),
+      rooms-stay _ _ _ _ _ _ c.self.invariant.1 r.reserved,
+    )
 
 pub returns : goal.returns
-returns c =
-    let s = state_of c.self.inside in
-    let goes = goes_on s c.args.self.now Switch c.self.view_is c.requires in
-    let journal = entered s Switch 0 0 c.recorded.result c.reserve.new.self.items c.recorded.new.journal.items c.reserve.ensures.items c.recorded.ensures.answer c.recorded.ensures.entry in
-    switch-told s c.self.invariant.0 c.args.self.now c.recorded.result c.recorded.new.journal.items c.flush.new.self c.self.view_is goes c.recorded.ensures.answer journal
+returns g c =
+    let h = c.self.inside in
+    let s = state_of h.job h.journal.items h.history.entries h.phase h.stun h.source h.dest h.streams h.back h.reads.items in
+    let t = state_of h.job c.settle.new.journal.items h.history.entries c.settle.new.phase h.stun c.settle.new.source c.flush-turn.new.self h.streams h.back h.reads.items in
+    let e = c.flush-turn.ensures in
+    let of = switch-of s c.flush-turn.result c.flush-turn.new.self c.self.invariant.0 (none-seen s _ Switch c.self.view_is (sym c.switch_wait.ensures ∙ c.in_default.is))
+    (record { step = e.step; bytes = e.bytes; call = e.call }) in
+    let r = c.settle.ensures in
+    steps-settled s (after_switch s c.flush-turn.new.self) t _ _ c.flush-turn.result c.settle.result c.self.invariant.0 c.self.view_is r.answer of (record { rest = refl; journal = r.journal; phase = r.phase; going = r.going; given_up = r.given_up })

@@ -1,28 +1,42 @@
-use Rattle.std.proofs.Common.{ℕ, List, ◌-◌, drop, ◌∙◌, ap}
+use Rattle.std.proofs.Common.{◌∙◌, ◌-◌, List, ℕ, length, drop, sym, ap, arith}
 use Rattle.std.specs.Prelude.{sum, count_by, nat_lt}
-use Rattle.xv_base.specs.Units.{Shape}
-use Rattle.xv_core.specs.Fields.{state_of}
-use Rattle.xv_core.proofs.Totals.{small_sums, small_cursors, totals-told}
-use Rattle.xv_core.proofs.Telling.{kept-told}
+use Rattle.xv_base.specs.Units.{Shape, units}
+use Rattle.xv_core.proofs.Told.{count-le-sum, totals-told}
+use Rattle.xv_core.proofs.Issued.{few-in-all}
 use Rattle.xv_core.proofs.migration.Migration.totals.Goals as goal
 
-pub cursors-requires : goal.cursors-requires
-cursors-requires c = small_cursors (state_of c.self.inside) c.self.invariant.0
+pub copied-requires-clause-each : goal.copied-requires-clause-each
+copied-requires-clause-each g c = c.disks.ensures.exactly ∙ ap (λ (s : Shape). length s.disks) c.layout_of-layout.ensures ∙ sym (few-in-all _ c.self.invariant.0.running).disks
 
-pub sum_of-requires : goal.sum_of-requires
-sum_of-requires c = rw c.deref.ensures.value (small_sums (state_of c.self.inside) c.self.invariant.0).messages
+pub copied-requires-clause-few : goal.copied-requires-clause-few
+copied-requires-clause-few g c = (few-in-all _ c.self.invariant.0.running).blocks
 
-pub sum_of-requires-2 : goal.sum_of-requires-2
-sum_of-requires-2 c = rw c.deref-3.ensures.value (small_sums (state_of c.self.inside) c.self.invariant.0).applied
+pub issued_from-requires-clause-each : goal.issued_from-requires-clause-each
+issued_from-requires-clause-each g c = c.units-units.ensures.exactly ∙ ap units c.layout_of-layout.ensures ∙ sym (few-in-all _ c.self.invariant.0.running).issued_each
 
-pub returns-clause-exactly : goal.returns-clause-exactly
-returns-clause-exactly c =
-    let pages = c.pages-pages.ensures.exactly ∙ ap (λ (x : Shape). x.pages) c.layout_of.ensures in
-    let above : ℕ → List ℕ → ℕ = λ n xs. sum (drop n xs) - count_by (λ (k : ℕ). nat_lt 0 k) (drop n xs) in
-    totals-told (state_of c.self.inside) c.args.self.now c.len.result c.faulted.result c.len-2.result c.cursors.result c.sum_of.result c.mirrors_of.result c.sum_of-2.result c.self.invariant.0 c.self.view_is
-    c.len.ensures.exactly c.faulted.ensures (c.len-2.ensures ∙ c.self.inside.journal.ok.0) c.cursors.ensures (c.sum_of.ensures ∙ ap sum c.deref.ensures.value)
-    (c.mirrors_of.ensures ∙ ap (λ n. above n c.deref-2.result.now) pages ∙ ap (above c.self.inside.job.shape.pages) c.deref-2.ensures.value)
-    (c.sum_of-2.ensures ∙ ap sum c.deref-3.ensures.value)
+pub issued_from-requires-clause-few : goal.issued_from-requires-clause-few
+issued_from-requires-clause-few g c = (few-in-all _ c.self.invariant.0.running).issued
 
-pub returns-clause-kept : goal.returns-clause-kept
-returns-clause-kept c = kept-told (state_of c.self.inside) c.args.self.now c.self.invariant.0 c.self.view_is
+pub issued_from-requires-2-clause-each : goal.issued_from-requires-2-clause-each
+issued_from-requires-2-clause-each g c = c.units-units.ensures.exactly ∙ ap units c.layout_of-layout.ensures ∙ sym (few-in-all _ c.self.invariant.0.running).issued_each
+
+pub made_from-requires-clause-each : goal.made_from-requires-clause-each
+made_from-requires-clause-each g c = c.units-units.ensures.exactly ∙ ap units c.layout_of-layout.ensures ∙ sym (few-in-all _ c.self.invariant.0.running).issued_each
+
+pub overflow_sub-result : goal.overflow_sub-result
+overflow_sub-result g c = omega (arith, c.made_from.ensures, c.issued_from-2.ensures, count-le-sum (drop c.pages-pages.result c.self.inside.source.issued))
+
+pub written-requires-clause-each : goal.written-requires-clause-each
+written-requires-clause-each g c = c.units-units.ensures.exactly ∙ ap units c.layout_of-layout.ensures ∙ sym (few-in-all _ c.self.invariant.0.running).applied_each
+
+pub written-requires-clause-few : goal.written-requires-clause-few
+written-requires-clause-few g c = (few-in-all _ c.self.invariant.0.running).applied
+
+pub returns : goal.returns
+returns g c =
+    let pages = c.pages-pages.ensures.exactly ∙ ap (λ (s : Shape). s.pages) c.layout_of-layout.ensures in
+    let above : ℕ → ℕ = λ n. sum (drop n c.self.inside.source.issued) - count_by (λ (k : ℕ). nat_lt 0 k) (drop n c.self.inside.source.issued) in
+    totals-told _ c.args.self.now c.len.result c.faulted.result c.len-2.result c.copied.result c.rounds.result c.issued_from.result _ c.written.result c.left.result c.self.invariant.0.running c.self.view_is
+    c.len.ensures.exactly c.faulted.ensures (c.len-2.ensures ∙ c.self.inside.journal.ok.0) c.copied.ensures c.rounds.ensures c.issued_from.ensures
+    (ap (λ (n : ℕ). n - c.made_from.result) c.issued_from-2.ensures ∙ ap (λ (n : ℕ). sum (drop c.pages-pages.result c.self.inside.source.issued) - n) c.made_from.ensures ∙ ap above pages)
+    c.written.ensures c.left.ensures

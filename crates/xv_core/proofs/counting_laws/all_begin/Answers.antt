@@ -1,0 +1,5 @@
+use Rattle.xv_core.proofs.CountingStart.{counts-begin, flags-begin, plans-begin, pieces-begin}
+use Rattle.xv_core.proofs.counting_laws.all_begin.Goals as goal
+
+pub returns : goal.returns
+returns c = record { counts = counts-begin; flags = flags-begin; plans = plans-begin; pieces = pieces-begin }

@@ -1,0 +1,5 @@
+use Rattle.xv_core.proofs.CountingFaults.{flags-are-caused}
+use Rattle.xv_core.proofs.counting_laws.flags_stay_caused.Goals as goal
+
+pub returns : goal.returns
+returns c = flags-are-caused

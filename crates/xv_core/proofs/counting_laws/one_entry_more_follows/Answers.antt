@@ -1,0 +1,5 @@
+use Rattle.xv_core.proofs.PlansFollow.{follows-one}
+use Rattle.xv_core.proofs.counting_laws.one_entry_more_follows.Goals as goal
+
+pub returns : goal.returns
+returns c = follows-one

@@ -1,0 +1,5 @@
+use Rattle.xv_core.proofs.PlansFollow.{follows-plans}
+use Rattle.xv_core.proofs.counting_laws.plans_are_followed.Goals as goal
+
+pub returns : goal.returns
+returns c = follows-plans

@@ -1,0 +1,5 @@
+use Rattle.xv_core.proofs.ConditionsReads.{source-whole, dest-whole}
+use Rattle.xv_core.proofs.keeping_laws.contents_are_whole.Goals as goal
+
+pub returns : goal.returns
+returns c = record { source = source-whole; dest = dest-whole }

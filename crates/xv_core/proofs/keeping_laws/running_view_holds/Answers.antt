@@ -1,0 +1,5 @@
+use Rattle.xv_core.proofs.Joined.{view-holds}
+use Rattle.xv_core.proofs.keeping_laws.running_view_holds.Goals as goal
+
+pub returns : goal.returns
+returns c = view-holds

@@ -1,0 +1,5 @@
+use Rattle.xv_core.proofs.Joined.{joined, joined-contents}
+use Rattle.xv_core.proofs.keeping_laws.state_of_its_parts.Goals as goal
+
+pub returns : goal.returns
+returns c = record { view = joined; contents = joined-contents }

@@ -1,0 +1,5 @@
+use Rattle.xv_core.proofs.Stays.{stays}
+use Rattle.xv_core.proofs.laws.events_leave_all_kept.Goals as goal
+
+pub returns : goal.returns
+returns c = stays

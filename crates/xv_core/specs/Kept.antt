@@ -1,0 +1,27 @@
+-- All that the parts of a migration keep, and its fields as these parts.
+use Rattle.std.specs.Prelude.{◌≡◌, ◌≤◌, ℕ, length, vec_capacity}
+use Rattle.xv_model.specs.Job.{operation_count, unit_count}
+use Rattle.xv_model.specs.Work.{bound}
+use Rattle.xv_job.specs.Written.{Written, job_of}
+use Rattle.xv_core.specs.Reads.{read_lengths}
+use Rattle.xv_core.specs.State.{State, seen_of, IsRunning, IsCarriedOver}
+use Rattle.xv_core.specs.Counting.{CountsFit, FlagsAreCaused}
+use Rattle.xv_core.specs.Plans.{FollowsPlans, ArePieces}
+
+pub record IsState (s : State) : Type 0 where
+  pub running : IsRunning s
+  pub carried : IsCarriedOver s.streams s.back
+  pub source_numbers : length s.source.told.writes ≡ unit_count (job_of s.job)
+  pub dest_numbers : length s.dest.told.writes ≡ unit_count (job_of s.job)
+  pub counts : CountsFit (seen_of s)
+  pub caused : FlagsAreCaused (seen_of s)
+  pub pieces : ArePieces s
+  pub plans : FollowsPlans (seen_of s)
+
+-- memory for all that the run needs: so many entries of the history and of the journal, so many bytes of reads, and the
+-- bytes of one read
+pub record HasRooms (job : Written) (history_room journal_room reads_room read_room : ℕ) : Type 0 where
+  pub history : history_room ≡ operation_count (job_of job)
+  pub journal : bound (job_of job) ≤ journal_room
+  pub reads : read_lengths (job_of job) ≤ reads_room
+  pub read : read_room ≡ 64

@@ -1,0 +1,56 @@
+-- What one step of a migration does, as contracts see it.
+use Rattle.std.specs.Prelude.{◌≡◌, ◌≤◌, ℕ, ◌+◌, ◌-◌, ◌^◌, ◌<◌, min, Bool, true, false, List, ◌++◌, map, length, IfSome, if◌then◌else◌}
+use Rattle.xv_model.specs.Job.{Job, unit_count}
+use Rattle.xv_model.specs.Guest.{read_bytes}
+use Rattle.xv_model.specs.View.{View, number, is_switched}
+use Rattle.xv_model.specs.Wait.{Event}
+use Rattle.xv_model.specs.Effect.{Turn}
+use Rattle.xv_model.specs.Step.{turn, step, entry_of, is_flagged, is_wait}
+use Rattle.xv_model.specs.Contents.{unit_content}
+use Rattle.xv_model.specs.Outside.{Outside, NoOutside, ReadSource, WriteSource, ReadDest, WriteDest, FlushDest, PutOn, TakeFrom, PutBack, TakeBack, outside}
+use Rattle.xv_job.specs.Written.{job_of}
+use Rattle.xv_core.specs.Seen.{Seen, OnWire, view_of, wire}
+use Rattle.xv_core.specs.Rising.{Rises, TakesRise}
+
+-- the faults of an object rose, or stand at the last value of 64 bits
+abbrev pub Rose : ℕ → ℕ → Type 0
+Rose before later = min (before + 1) (2 ^ 64 - 1) ≤ later
+
+-- the count of the object of a call rose
+abbrev pub RoseOn : Outside → Seen → Seen → Type 0
+RoseOn NoOutside old new = ⊥
+RoseOn (ReadSource p) old new = Rose old.source.faults new.source.faults
+RoseOn (WriteSource p) old new = Rose old.source.faults new.source.faults
+RoseOn (ReadDest p) old new = Rose old.dest.faults new.dest.faults
+RoseOn (WriteDest p) old new = Rose old.dest.faults new.dest.faults
+RoseOn FlushDest old new = Rose old.dest.faults new.dest.faults
+RoseOn (PutOn s) old new = Rose (wire old s).faults (wire new s).faults
+RoseOn (TakeFrom s) old new = Rose (wire old s).faults (wire new s).faults
+RoseOn PutBack old new = Rose old.back.faults new.back.faults
+RoseOn TakeBack old new = Rose old.back.faults new.back.faults
+
+-- what wires tell, without their faults
+abbrev pub told_by : OnWire → OnWire
+told_by w = record w { faults = 0 }
+
+-- nothing changed but that a wire may have counted a fault
+pub record IsAsBefore (old new : Seen) : Type 0 where
+  pub job : new.job ≡ old.job
+  pub journal : new.journal ≡ old.journal
+  pub reads : new.reads ≡ old.reads
+  pub source : new.source ≡ old.source
+  pub dest : new.dest ≡ old.dest
+  pub wires : map told_by new.wires ≡ map told_by old.wires
+  pub back : told_by new.back ≡ told_by old.back
+
+-- One step: the answer is the machine's, where a call on the outside fails or not; the journal has one entry more, or as
+-- many as before where the event waits; a wait changes nothing; all that is counted rises by the journal's calls, and no
+-- count of faults falls; and an answer that a call failed comes only where the count of faults of its object rose.
+pub record IsStep (old : Seen) (event : Event) (answer : Turn) (new : Seen) : Type 0 where
+  pub job : new.job ≡ old.job
+  pub answers : answer ≡ turn (job_of old.job) (view_of old) event (is_flagged answer)
+  pub journal : new.journal ≡ old.journal ++ entry_of event answer
+  pub waits : is_wait answer ≡ true → IsAsBefore old new
+  pub rises : Rises old new
+  pub takes_rise : TakesRise old new
+  pub cause : is_flagged answer ≡ true → RoseOn (outside (job_of old.job) (view_of old) event) old new

@@ -1,0 +1,4 @@
+pub mod Half
+pub mod Step
+pub mod Kept
+pub mod Arrival

@@ -1,0 +1,4 @@
+pub mod Copies
+pub mod Seen
+pub mod State
+pub mod Fields

@@ -1,0 +1,12 @@
+use Rattle.std.proofs.Common.{false, true, if◌then◌else◌, subst, sym}
+use Rattle.std.specs.Prelude.{Bool, is_err, ◌≡◌}
+use Rattle.xv_model.specs.Wait.{Alone}
+use Rattle.xv_source.specs.Half.{Source}
+use Rattle.xv_source.specs.Operations.{HasActed}
+use Rattle.xv_source.proofs.Acting.{guest-acted-alone, acts-over, leaves-alone}
+use Rattle.xv_source.proofs.source.SourceHalf.guest_alone.Goals as goal
+
+pub returns-clause-step : goal.returns-clause-step
+returns-clause-step g c = λ job v guest allows over on_source next.
+    guest-acted-alone (is_err c.operate.result) job v guest c.acted.result c.args.self.now c.operate.new.self c.args.op.now
+    (acts-over job v guest c.args.op.now c.args.self.now allows over on_source next c.requires.legal) c.operate.ensures.acted c.acted.ensures

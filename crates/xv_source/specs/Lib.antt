@@ -1,0 +1,11 @@
+pub mod Half
+pub mod Limits
+pub mod Step
+pub mod Kept
+pub mod Waits
+pub mod Operations
+pub mod Regions
+pub mod Making
+pub mod Batches
+pub mod Rounds
+pub mod Parts
