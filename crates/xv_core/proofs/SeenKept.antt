@@ -77,11 +77,11 @@ wires-hold s i both k lt =
     let streams = (shows s i.running).streams in
     let of : UnitHead → List ℕ = message_content job v.history in
     let same : contents_on s.streams.lanes ≡ map (map (map of)) (heads_on s.streams.lanes) =
-            (i.running.contents both).streams_are ∙ ap (λ (ss : List (List (List UnitHead))). map (map (map of)) ss) streams in
+    (i.running.contents both).streams_are ∙ ap (λ (ss : List (List (List UnitHead))). map (map (map of)) ss) streams in
     let groups : (lane s.streams k).groups ≡ guest_messages job v k =
-            lanes-are of s.streams.lanes k same ∙ ap (λ (ss : List (List (List UnitHead))). map (map (guest_message job v)) (get_or ss k [])) (sym streams) in
+    lanes-are of s.streams.lanes k same ∙ ap (λ (ss : List (List (List UnitHead))). map (map (guest_message job v)) (get_or ss k [])) (sym streams) in
     let carried : IsCarried job.shape job.format (lane s.streams k) =
-            carried-at (IsCarried job.shape job.format) s.streams.lanes k (all-carried job s i.running.parts i.carried).lanes (rw i.running.parts.each_stream lt) in
+    carried-at (IsCarried job.shape job.format) s.streams.lanes k (all-carried job s i.running.parts i.carried).lanes (rw i.running.parts.each_stream lt) in
     subst (λ (w : OnWire). w.gathered ++ w.told.transit ≡ all_spelled (frames_of job.format (guest_messages job v k))) (sym (wire-is s.streams.lanes k))
     (carried.stand ∙ ap (λ (gs : List (List Message)). all_spelled (frames_of job.format gs)) groups)
 

@@ -58,7 +58,7 @@ still-each : (P : LaneSeen → Type 0) → ((l m : LaneSeen) → IsStill l m →
 still-each P same [] [] h e = tt
 still-each P same [] (m ∷ ms) h e = absurd h
 still-each P same (l ∷ ls) [] h e = absurd h
-still-each P same (l ∷ ls) (m ∷ ms) h e = (same l m h.0 e.0 , still-each P same ls ms h.1 e.1)
+still-each P same (l ∷ ls) (m ∷ ms) h e = (same l m h.0 e.0, still-each P same ls ms h.1 e.1)
 
 -- a stream that is still, but for its faults, is the one before
 lane-still : (l m : LaneSeen) → IsStill l m → m ≡ record l { faults = m.faults }
@@ -221,7 +221,7 @@ wait-stays s t k w = subst IsState (sym w.rest) (state-same s t.streams t.back w
 -- where nothing at all changed
 are-still : (ls : List LaneSeen) → AreStill ls ls
 are-still [] = tt
-are-still (l ∷ ls) = (still-none l , are-still ls)
+are-still (l ∷ ls) = (still-none l, are-still ls)
 
 pub waited-none : (s : State) → Waited s s
 waited-none s = record {
@@ -234,5 +234,5 @@ waited-none s = record {
 -- where a stream among some is still
 pub still-set : (ls : List LaneSeen) (k : ℕ) (l : LaneSeen) → IsStill (get_or ls k no_lane) l → AreStill ls (set ls k l)
 still-set [] k l h = tt
-still-set (x ∷ ls) zero l h = (h , are-still ls)
-still-set (x ∷ ls) (suc k) l h = (still-none x , still-set ls k l h)
+still-set (x ∷ ls) zero l h = (h, are-still ls)
+still-set (x ∷ ls) (suc k) l h = (still-none x, still-set ls k l h)

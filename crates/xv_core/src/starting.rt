@@ -147,7 +147,14 @@ impl<S: UnitDevice, T: UnitDevice, W: Wire> Migration<S, T, W> {
         ensures back { IfErr result (λ parts. parts.back ≡ back) }
     {
         match Streams::new(alloc, wires, job.layout, job.format) {
-            Ok(streams) => Ok(Migration::join(job, rooms, source, dest, streams, BackWire::new(back))),
+            Ok(streams) => Ok(Migration::join(
+                job,
+                rooms,
+                source,
+                dest,
+                streams,
+                BackWire::new(back),
+            )),
             Err(wires) => Err(Parts {
                 job,
                 source: source.into_device(),

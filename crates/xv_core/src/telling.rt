@@ -159,7 +159,8 @@ impl<S: UnitDevice, T: UnitDevice, W: Wire> Migration<S, T, W> {
             copied: copied(&self.source, layout.disks()),
             rounds: self.source.rounds(),
             messages: issued_from(&self.source, 0, units),
-            mirrors: issued_from(&self.source, pages, units) - made_from(&self.source, pages, units),
+            mirrors: issued_from(&self.source, pages, units)
+                - made_from(&self.source, pages, units),
             applied: written(&self.dest, units),
             credit: self.source.left(),
         }

@@ -5,7 +5,9 @@ ghost use Rattle.xv_source.specs.Limits.{fresh};
 use crate::SourceHalf;
 use std::alloc::Global;
 use std::test::Fail;
-use xv_base::{Config, DiskShape, GuestId, Layout, NoMemory, Note, Pattern, Turn, UnitId, UnitOp, Why};
+use xv_base::{
+    Config, DiskShape, GuestId, Layout, NoMemory, Note, Pattern, Turn, UnitId, UnitOp, Why,
+};
 use xv_device::{DevicePlan, MemDevice};
 
 pub const CONFIG: Config = Config {

@@ -6,8 +6,8 @@ ghost use Rattle.xv_job.specs.Written.{job_of};
 ghost use Rattle.xv_plain.specs.Seen.{IsKept};
 ghost use Rattle.xv_top.specs.Replay.{result_text};
 
-use xv_plain::Migration;
 use xv_io::{Sink, WriteFault, write_text};
+use xv_plain::Migration;
 use xv_report::{write_image, write_report};
 
 /// Writes the report and the image of a migration, and hands all on.

@@ -16,8 +16,8 @@ ghost use Rattle.xv_top.specs.Playing.{IsPlayed, line_played};
 use crate::input::behind;
 use std::alloc::Global;
 use xv_base::{Event, Turn};
-use xv_plain::Migration;
 use xv_io::{Sink, write_text};
+use xv_plain::Migration;
 use xv_script::{Line, print_turn};
 
 /// Why a script was not played to its end.

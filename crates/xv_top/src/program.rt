@@ -21,9 +21,9 @@ use crate::playing::{PlayError, play};
 use crate::refusal::{refuse_input, refuse_words};
 use std::alloc::Global;
 use xv_base::Status;
-use xv_plain::Migration;
 use xv_io::{Sink, Source};
 use xv_job::Job;
+use xv_plain::Migration;
 use xv_script::Line;
 
 /// What a call leaves behind: the migration that ran, or nothing.

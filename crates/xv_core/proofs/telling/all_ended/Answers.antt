@@ -17,6 +17,6 @@ pub returns : goal.returns
 returns c =
     let traces = (job_of c.args.job.now).traces in
     each-ended traces c.args.history.now.entries 0 (λ k lt.
-      let same : 0 + k ≡ k = omega arith in
-      let there : k < c.loop-guest.guest = omega (arith, c.guests-guest-end.ensures.exactly) in
-      ap (λ (n : ℕ). nat_le (length (get_or traces k [])) (ended c.args.history.now.entries n)) same ∙ c.loop-guest.invariant k there)
+    let same : 0 + k ≡ k = omega arith in
+    let there : k < c.loop-guest.guest = omega (arith, c.guests-guest-end.ensures.exactly) in
+    ap (λ (n : ℕ). nat_le (length (get_or traces k [])) (ended c.args.history.now.entries n)) same ∙ c.loop-guest.invariant k there)
