@@ -2,7 +2,6 @@
 use Rattle.std.specs.Prelude.{◌≡◌, ◌≤◌, ◌<◌, ℕ, zero, suc, ◌+◌, ◌-◌, ◌&&◌, not, nat_le, nat_lt, Bool, true, false, List, [], ◌∷◌, length, map, drop, get_or, Option, Some, None, sum, sum_by, count_by, if◌then◌else◌}
 use Rattle.std.proofs.Common.{refl, sym, ap, subst, ◌∙◌, arith}
 use Rattle.std.proofs.lemmas.Bool.{ltb-true}
-use Rattle.std.proofs.lemmas.List.{length-map}
 use Rattle.std.proofs.lemmas.List.Sums.{sum_by-cons, sum_by-le-sum_by}
 use Rattle.xv_base.specs.declared.operation.Outcome.{Outcome}
 use Rattle.xv_base.specs.declared.operation.Outcome.TheVariants.{Done, Faulted}
@@ -10,12 +9,6 @@ use Rattle.xv_base.specs.declared.event.Probe.{Probe}
 use Rattle.xv_base.specs.declared.event.Totals.{Totals}
 use Rattle.xv_wire.specs.Told.{Told as WireTold}
 use Rattle.xv_guest.specs.Log.{is_faulted, faulted}
-use Rattle.xv_base.specs.Units.{Shape}
-use Rattle.xv_trace.specs.Operations.{count_all, all_unit_operations}
-use Rattle.xv_trace.specs.declared.op.Op.{Op}
-use Rattle.xv_trace.specs.OpText.{Program}
-use Rattle.xv_trace.proofs.Counts.{length-all_unit_operations}
-use Rattle.xv_job.specs.Written.{Written, ops_held}
 use Rattle.xv_model.specs.Job.{Job, UnitOp, trace}
 use Rattle.xv_model.specs.Guest.{Ended, ended, is_done}
 use Rattle.xv_model.specs.View.{View, Phase, Side, Disk, no_disk, number, is_empty, queues_empty, side}
@@ -65,15 +58,6 @@ each-ended (t ∷ traces) history g h =
     let same : g + 0 ≡ g = omega arith in
     each-ended traces history (g + 1) (λ k lt. sym (ap (λ (n : ℕ). nat_le (length (get_or traces k [])) (ended history n)) (next-guest g k)) ∙ h (suc k) (omega arith))
     ∙ sym (ap (λ (b : Bool). b && all_ended_from (g + 1) traces history) (sym (ap (λ (n : ℕ). nat_le (length t) (ended history n)) same) ∙ h 0 (omega arith)))
-
--- how many operations a guest has
-pub trace-long : (shape : Shape) (ts : List Program) (guest : ℕ) (t : Program) → guest < length ts → t ≡ get_or ts guest t → count_all t.ops ≡ length (get_or (map (all_unit_operations shape) (ops_held ts)) guest [])
-trace-long shape [] guest t lt is = absurd (omega arith)
-trace-long shape (u ∷ ts) zero t lt is = ap (λ (p : Program). count_all p.ops) is ∙ length-all_unit_operations shape u.ops
-trace-long shape (u ∷ ts) (suc guest) t lt is = trace-long shape ts guest t (omega arith) is
-
-pub held-long : (w : Written) (ts : List Program) (guest : ℕ) → w.traces ≡ ops_held ts → guest < length (job_of w).traces → guest < length ts
-held-long w ts guest e lt = omega (arith, length-map w.traces (all_unit_operations w.shape), ap (λ (x : List (List Op)). length x) e, length-map ts (λ (t : Program). t.ops))
 
 -- what is told of a wire
 pub told-wires : (lanes : List LaneSeen) → map (λ (l : LaneSeen). l.wire) lanes ≡ map (λ (w : OnWire). w.told) (map on_wire lanes)

@@ -81,7 +81,7 @@ impl<S: UnitDevice, T: UnitDevice, W: Wire> Migration<S, T, W> {
 }
 
 /// How many unit operations a guest has.
-fn operations(job: &Job, guest: GuestId) -> u32
+pub(crate) fn operations(job: &Job, guest: GuestId) -> u32
     requires { guest.0 < guest_count (job_of job.now) }
     ensures { result ≡ length (trace (job_of job.now) guest.0) }
 {

@@ -25,6 +25,8 @@ mod starting;
 mod stepping;
 mod sums;
 mod telling;
+#[cfg(test)]
+mod tests;
 
 pub use migration::Migration;
 pub use starting::Parts;

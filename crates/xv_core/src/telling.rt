@@ -11,6 +11,7 @@ ghost use Rattle.xv_job.specs.Written.{job_of};
 ghost use Rattle.xv_core.specs.Seen.{view_of};
 ghost use Rattle.xv_core.specs.Keeping.{IsKept};
 
+use crate::guest_waits::operations;
 use crate::migration::Migration;
 use crate::settling::is_live;
 use crate::starting::Parts;
@@ -224,15 +225,8 @@ fn has_ended(job: &Job, history: &History, guest: u8) -> bool
     requires { guest < length (job_of job.now).traces }
     ensures { result ≡ nat_le (length (trace (job_of job.now) guest)) (ended history.now.entries guest) }
 {
-    operations(job, guest) <= history.ended(GuestId(guest))
-}
-
-/// How many operations a guest has.
-fn operations(job: &Job, guest: u8) -> u32
-    requires { guest < length (job_of job.now).traces }
-    ensures { result ≡ length (trace (job_of job.now) guest) }
-{
-    job.traces[guest as usize].unit_ops()
+    let guest = GuestId(guest);
+    operations(job, guest) <= history.ended(guest)
 }
 
 /// How many guests a job has.
