@@ -1,5 +1,5 @@
 -- From an operation whose call was made to the machine's step.
-use Rattle.std.specs.Prelude.{◌≡◌, ℕ, ◌+◌, ◌&&◌, ◌||◌, not, nat_le, Bool, true, false, List, [], ◌∷◌, ◌++◌, length, set, get_or, Option, Some, None, is_some, unwrap_or, if◌then◌else◌}
+use Rattle.std.specs.Prelude.{◌≡◌, ℕ, ◌+◌, ◌&&◌, ◌||◌, not, nat_le, Bool, true, false, List, [], ◌∷◌, ◌++◌, length, get_or, Some, None, is_some, unwrap_or, if◌then◌else◌}
 use Rattle.std.proofs.Common.{refl, sym, ap, subst, ◌∙◌}
 use Rattle.xv_base.specs.declared.answer.Turn.TheVariants.{Queued, Faulted}
 use Rattle.xv_base.specs.declared.answer.Why.TheVariants.{TraceEnd, InQueue, CancelDue, Stunned, Throttled}
@@ -7,19 +7,18 @@ use Rattle.xv_base.specs.declared.event.Event.TheVariants.{Guest}
 use Rattle.xv_base.specs.declared.unit.GuestId.{GuestId}
 use Rattle.xv_base.specs.declared.event.Phase.TheVariants.{Running, Stunned as PhaseStunned, Switched, Cancelled, Failed}
 use Rattle.xv_base.specs.Units.{is_page, disk_of, block_of}
-use Rattle.xv_base.specs.Pattern.{repeated}
-use Rattle.xv_device.specs.Told.{Told, told_after, IsSized}
+use Rattle.xv_device.specs.Told.{Told, IsSized}
 use Rattle.xv_model.specs.Job.{Job, UnitOp, IsLegal, trace}
 use Rattle.xv_model.specs.Guest.{ended}
 use Rattle.xv_model.specs.View.{View, Phase, no_disk, in_queue, is_behind, is_inside, is_stunned, is_switched, is_live, is_running}
-use Rattle.xv_model.specs.Wait.{Event, Why, Aim, Alone, Store, Join, Mirror, aim, wait, unless, next_operation, next_aim, is_join, is_mirror, is_full, cancel_due}
+use Rattle.xv_model.specs.Wait.{Aim, Alone, Store, Join, Mirror, aim, wait, unless, next_operation, next_aim, is_join, is_mirror, cancel_due}
 use Rattle.xv_model.specs.Effect.{Turn, guest_by, guest_answer}
 use Rattle.xv_model.specs.Step.{call, guest_call, is_call, is_flagged, is_wait}
 use Rattle.xv_model.specs.Contents.{Contents, unit_content, after_operation, read_of}
 use Rattle.xv_source.specs.Half.{Source, with_limits, with_source, with_source_bytes, IsSourceOf, HasSourceBytes, AreWhole}
-use Rattle.xv_source.specs.Step.{is_let, operation_call, Allows, StepsSource}
+use Rattle.xv_source.specs.Step.{is_let, Allows, StepsSource}
 use Rattle.xv_source.specs.Operations.{acted, stored, mirrored, HasActed}
-use Rattle.xv_source.proofs.Steps.{along, against, Does, steps-does, steps-failed, steps-waits}
+use Rattle.xv_source.proofs.Steps.{along, against, Does, steps-does, steps-failed}
 use Rattle.xv_source.proofs.Operated.{told-operated, tells-operated, told-unchanged, block-written}
 
 -- an operation that the migration lets go on waits for room for its message alone

@@ -1,15 +1,15 @@
 -- The messages that go on a stream together: which they are, and that their frame fits the wire.
-use Rattle.std.specs.Prelude.{◌≡◌, ◌<◌, ◌≤◌, ℕ, zero, suc, ◌+◌, ◌-◌, ◌*◌, Bool, List, [], ◌∷◌, ◌++◌, length, map, take, drop, get_or}
-use Rattle.std.proofs.Common.{refl, sym, ap, subst, ◌∙◌, arith}
+use Rattle.std.specs.Prelude.{◌≡◌, ◌<◌, ◌≤◌, ℕ, zero, suc, ◌+◌, ◌-◌, ◌*◌, Bool, List, [], ◌∷◌, length, take, drop, get_or}
+use Rattle.std.proofs.Common.{refl, sym, ap, ◌∙◌, arith}
 use Rattle.std.proofs.lemmas.List.{drop-map, take-map, drop-drop, length-map, length-take-le}
-use Rattle.xv_base.specs.Units.{Shape, size, max_size}
+use Rattle.xv_base.specs.Units.{Shape, max_size}
 use Rattle.xv_base.specs.declared.limits.Config.{Config}
 use Rattle.xv_credit.specs.Counts.{Count}
 use Rattle.xv_device.specs.Told.{Told}
 use Rattle.xv_frame.specs.Frame.{Message, message, GroupFrame, Each, spelled}
 use Rattle.xv_outbox.specs.Messages.{Outbox, Message as Unsent, UnitHead, heads, contents}
 use Rattle.xv_streams.specs.Streamed.{LaneSeen, no_lane}
-use Rattle.xv_streams.specs.Carried.{joined, IsCarried, IsMade}
+use Rattle.xv_streams.specs.Carried.{IsCarried, IsMade}
 use Rattle.xv_streams.specs.Fronts.{HasRoomFor}
 use Rattle.xv_source.specs.declared.disk.DiskCopy.{DiskCopy}
 use Rattle.xv_source.specs.Half.{Source}

@@ -1,5 +1,5 @@
 -- The operations of guests at the source.
-use Rattle.std.proofs.Common.{◌≡◌, ◌≤◌, ◌+◌, ℕ, List, ◌++◌, Option, Some, length, take, drop, false, is_some, arith, ap, refl}
+use Rattle.std.proofs.Common.{◌≡◌, ◌≤◌, ℕ, List, ◌++◌, Option, Some, length, take, drop, false, is_some, arith, ap}
 use Rattle.std.proofs.lemmas.List.{take_at}
 use Rattle.xv_base.specs.Units.{Shape, is_page, size, max_size}
 use Rattle.xv_base.specs.Layout.{IsGood}

@@ -9,17 +9,16 @@ use Rattle.xv_base.specs.declared.event.Side.{Side}
 use Rattle.xv_base.specs.declared.event.Side.TheVariants.{Ahead, Inside, Behind, Dirty, Waiting, Clean}
 use Rattle.xv_base.specs.declared.unit.GuestId.{GuestId}
 use Rattle.xv_base.specs.Units.{is_page, disk_of, block_of}
-use Rattle.xv_base.specs.Pattern.{repeated}
 use Rattle.xv_model.specs.Job.{Job, UnitOp, IsLegal}
-use Rattle.xv_model.specs.View.{View, Disk, no_disk, block_side, is_behind, is_inside, is_running}
-use Rattle.xv_model.specs.Wait.{Event, Why, Aim, Alone, Store, Mirror, unless, wait, next_operation, next_aim, is_mirror}
+use Rattle.xv_model.specs.View.{View, no_disk, block_side, is_behind, is_inside, is_running}
+use Rattle.xv_model.specs.Wait.{Why, Alone, Store, Mirror, unless, wait, next_operation, next_aim, is_mirror}
 use Rattle.xv_model.specs.Effect.{Turn}
 use Rattle.xv_model.specs.Step.{is_flagged}
 use Rattle.xv_source.specs.Half.{Source, with_limits, with_source}
 use Rattle.xv_source.specs.Step.{Allows, StepsSource}
 use Rattle.xv_source.specs.Operations.{acted, mirrored, HasActed}
 use Rattle.xv_source.proofs.Steps.{steps-waits}
-use Rattle.xv_source.proofs.Acting.{Acts, aim_at, aim_of_write, aim-running, acts-running, guest-wait, guest-acted, leaves-mirror}
+use Rattle.xv_source.proofs.Acting.{aim_at, aim_of_write, aim-running, acts-running, guest-wait, guest-acted, leaves-mirror}
 
 -- what a side says of the two tests
 abbrev pub IsNeither : Side → Type 0

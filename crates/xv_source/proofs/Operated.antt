@@ -1,11 +1,11 @@
 -- What a device tells after an operation is what the machine says of its contents.
-use Rattle.std.specs.Prelude.{◌≡◌, ◌<◌, ◌≤◌, ℕ, ◌+◌, Bool, true, false, List, [], ◌∷◌, ◌++◌, length, take, drop, set, get_or, Option, Some, None, is_some, unwrap_or, option_map, IfSome, if◌then◌else◌}
+use Rattle.std.specs.Prelude.{◌≡◌, ◌<◌, ℕ, ◌+◌, Bool, true, false, List, [], ◌++◌, length, take, drop, set, Option, Some, None, is_some, unwrap_or, option_map, IfSome, if◌then◌else◌}
 use Rattle.std.proofs.Common.{refl, sym, ap, subst, ◌∙◌, arith}
 use Rattle.std.proofs.lemmas.List.{append-nil, set-get_or, get_or-set_same}
 use Rattle.std.proofs.Math.ListN.{drop_of_length-le}
 use Rattle.xv_base.specs.Units.{Shape, is_page, size, units}
 use Rattle.xv_base.specs.Pattern.{repeated}
-use Rattle.xv_device.specs.Device.{DeviceCall, PatchRange, WriteUnit, content, patched, contents_after}
+use Rattle.xv_device.specs.Device.{PatchRange, WriteUnit, content, contents_after}
 use Rattle.xv_device.specs.Told.{Told, told_after, IsSized}
 use Rattle.xv_model.specs.Job.{UnitOp, IsLegal}
 use Rattle.xv_model.specs.Guest.{overlaid}

@@ -1,5 +1,5 @@
 -- From a write that has left its queue to the machine's step.
-use Rattle.std.specs.Prelude.{◌≡◌, ◌<◌, ℕ, ◌+◌, ◌&&◌, ◌==◌, not, Bool, true, false, List, [], ◌∷◌, ◌++◌, length, set, get_or, Option, Some, None, is_some, unwrap_or, if◌then◌else◌}
+use Rattle.std.specs.Prelude.{◌≡◌, ℕ, ◌+◌, ◌&&◌, ◌==◌, not, Bool, true, false, List, [], ◌∷◌, ◌++◌, length, set, get_or, Option, Some, None, is_some, unwrap_or, if◌then◌else◌}
 use Rattle.std.proofs.Common.{refl, sym, ap, subst, ◌∙◌}
 use Rattle.std.proofs.lemmas.Bool.{and_parts, eqb-true}
 use Rattle.xv_base.specs.declared.answer.Turn.TheVariants.{Faulted}
@@ -10,12 +10,12 @@ use Rattle.xv_device.specs.Told.{Told, IsSized}
 use Rattle.xv_model.specs.Job.{Job, UnitOp, IsLegal}
 use Rattle.xv_model.specs.Guest.{writes_to}
 use Rattle.xv_model.specs.View.{View, Waiting, disk, no_disk, front, number, is_empty, is_inside, is_live, is_running}
-use Rattle.xv_model.specs.Wait.{Event, wait, unless, cancel_due, is_full}
-use Rattle.xv_model.specs.Effect.{Turn, note, made, released as released_view}
+use Rattle.xv_model.specs.Wait.{wait, unless, cancel_due, is_full}
+use Rattle.xv_model.specs.Effect.{Turn, made, released as released_view}
 use Rattle.xv_model.specs.Step.{is_flagged, is_wait}
 use Rattle.xv_model.specs.Contents.{Contents, unit_content, after_operation, front_operation, release_moves}
-use Rattle.xv_source.specs.Half.{Source, with_limits, with_source, with_source_bytes, IsSourceOf, HasSourceBytes, AreWhole}
-use Rattle.xv_source.specs.Step.{operation_call, after_fault, Allows, StepsSource}
+use Rattle.xv_source.specs.Half.{Source, with_limits, with_source, with_source_bytes, IsSourceOf, HasSourceBytes}
+use Rattle.xv_source.specs.Step.{after_fault, Allows, StepsSource}
 use Rattle.xv_source.specs.Operations.{released, laid, mirrored, left, HasActed}
 use Rattle.xv_source.specs.Waits.{own_wait}
 use Rattle.xv_source.proofs.Steps.{along, against, Does, steps-does, steps-failed}

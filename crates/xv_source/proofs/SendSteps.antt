@@ -1,5 +1,5 @@
 -- From messages that were sent to the machine's step.
-use Rattle.std.specs.Prelude.{◌≡◌, ◌<◌, ◌≤◌, ◌⊎◌, ℕ, zero, suc, ◌+◌, ◌-◌, ◌==◌, min, Bool, true, false, List, [], ◌∷◌, length, take, drop, get_or, Option, None, is_some, unwrap_or, if◌then◌else◌}
+use Rattle.std.specs.Prelude.{◌≡◌, ◌≤◌, ℕ, zero, suc, ◌-◌, ◌==◌, min, Bool, true, false, List, [], ◌∷◌, length, take, drop, get_or, None, if◌then◌else◌}
 use Rattle.std.proofs.Common.{refl, sym, ap, subst, ◌∙◌, arith, inl, inr}
 use Rattle.std.proofs.lemmas.Bool.{eqb-false}
 use Rattle.std.proofs.lemmas.List.{length-take-le}
@@ -8,16 +8,16 @@ use Rattle.xv_base.specs.declared.answer.Turn.TheVariants.{Failed}
 use Rattle.xv_base.specs.declared.answer.Why.TheVariants.{NothingThere, NoCredit}
 use Rattle.xv_base.specs.declared.event.Event.TheVariants.{Send}
 use Rattle.xv_model.specs.Job.{Job}
-use Rattle.xv_model.specs.View.{View, UnitHead, no_message, is_empty, is_live}
-use Rattle.xv_model.specs.Wait.{Event, wait, unless}
+use Rattle.xv_model.specs.View.{View, UnitHead, no_message, is_empty}
+use Rattle.xv_model.specs.Wait.{unless}
 use Rattle.xv_model.specs.Effect.{Turn, note, group_note, sent}
 use Rattle.xv_model.specs.Step.{is_flagged, is_wait}
-use Rattle.xv_model.specs.Contents.{Contents, send_moves}
-use Rattle.xv_source.specs.Half.{Source, with_limits, with_source, with_source_bytes, IsSourceOf, HasSourceBytes, AreWhole}
+use Rattle.xv_model.specs.Contents.{send_moves}
+use Rattle.xv_source.specs.Half.{Source, with_limits, with_source, with_source_bytes, IsSourceOf, HasSourceBytes}
 use Rattle.xv_source.specs.Step.{Allows, StepsSource, IsMost, batch_of}
 use Rattle.xv_source.specs.Waits.{own_wait}
 use Rattle.xv_source.specs.Batches.{past, told_of}
-use Rattle.xv_source.proofs.Steps.{along, Does, steps-does, steps-failed}
+use Rattle.xv_source.proofs.Steps.{Does, steps-does, steps-failed}
 use Rattle.xv_source.proofs.Waits.{own-goes}
 use Rattle.xv_source.proofs.Acting.{part-bytes}
 

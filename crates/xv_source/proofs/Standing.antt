@@ -1,8 +1,8 @@
 -- Where a half stands in the run of a small job, over a device that counts and fails no call: what each call asks can then
 -- be read off the machine.
-use Rattle.std.specs.Prelude.{◌≡◌, ◌<◌, ◌≤◌, ℕ, zero, suc, ◌+◌, ◌-◌, ◌^◌, ◌&&◌, nat_lt, Bool, true, false, List, [], ◌∷◌, length, replicate, get_or, Option, Some, None, IfSome, option_map}
+use Rattle.std.specs.Prelude.{◌≡◌, ◌<◌, ◌≤◌, ℕ, zero, suc, ◌+◌, ◌-◌, ◌*◌, ◌^◌, min, nat_lt, Bool, true, false, List, [], ◌∷◌, length, replicate, get_or, Option, Some, None, IfSome, option_map}
 use Rattle.std.specs.List.{list_all}
-use Rattle.std.proofs.Common.{refl, sym, ap, subst, ◌∙◌, arith, lit<, inl, inr}
+use Rattle.std.proofs.Common.{refl, sym, ap, subst, ◌∙◌, arith, lit<, lit≤, inl, inr}
 use Rattle.std.proofs.lemmas.Bool.{cases_Bool, and_parts, ltb-true}
 use Rattle.xv_base.specs.Units.{Shape, shape_of, is_page, units, size}
 use Rattle.xv_base.specs.declared.limits.Config.{Config}
@@ -10,14 +10,18 @@ use Rattle.xv_base.specs.declared.event.Event.TheVariants.{Guest, Begin, Read, A
 use Rattle.xv_device.specs.Device.{DeviceCall, NoCall, ReadRange, PatchRange, WriteUnit, FlushAll, Plan, Calls, Counted, writes_after, calls_after, is_planned}
 use Rattle.xv_device.specs.Told.{Told, told_after, HasRoomToCount}
 use Rattle.xv_model.specs.Job.{Job, UnitOp, IsLegal}
-use Rattle.xv_model.specs.View.{View, Disk, no_disk, first_view, front, in_queue, is_running, number}
+use Rattle.xv_model.specs.View.{View, Disk, no_disk, first_view, front, is_running, number}
 use Rattle.xv_model.specs.Guest.{writes_to}
 use Rattle.xv_model.specs.Wait.{Event, next_operation}
 use Rattle.xv_model.specs.Effect.{Turn}
 use Rattle.xv_model.specs.Step.{turn, step, is_flagged}
+use Rattle.xv_frame.specs.Frame.{Message}
+use Rattle.xv_streams.specs.Streamed.{LaneSeen}
+use Rattle.xv_streams.specs.Carried.{joined}
+use Rattle.xv_streams.specs.Fronts.{HasRoomFor}
 use Rattle.xv_source.specs.Half.{Source, IsSourceOf, next_unit}
 use Rattle.xv_source.specs.Limits.{fresh}
-use Rattle.xv_source.specs.Step.{Allows, StepsSource, MakesCall, MakesNoCall, HasFewVersions, unit_read, went_out}
+use Rattle.xv_source.specs.Step.{Allows, StepsSource, MakesCall, MakesNoCall, HasFewVersions, IsMost, batch_of, unit_read, went_out}
 
 -- a job of these operations, with one message at a time
 abbrev pub machine : Shape → Config → List (List UnitOp) → Job
@@ -239,3 +243,15 @@ pub frees : (byte : ℕ) (t u : Turn) (h read new : Source) → Stands (of_trace
     Stands (of_traces (waiting byte)) (at_freed byte) (replicate 5 0) one_read new
 frees byte t u h read new at steps called advance none =
     advances (waiting byte) (step (of_traces (waiting byte)) (at_queued byte) (Read 0) false) u read new (reads-queued byte t h read at steps called) refl refl advance none refl
+
+-- a stream on which nothing is has room for the greatest group of such messages
+pub batch-fits : (format most : ℕ) (h : Source) (l : LaneSeen) → IsMost format most → h.shape ≡ small → l.groups ≡ [] → l.wire.capacity ≡ 960 → HasRoomFor h.shape format (batch_of format most h) l
+batch-fits format most h l (inl one) is none capacity =
+    let P : ℕ → Type 0 = λ f. HasRoomFor h.shape f (batch_of f most h) l in
+    subst P (sym one.0) (subst (λ (s : Shape). HasRoomFor s 1 (batch_of 1 most h) l) (sym is)
+    (subst (λ (gs : List (List Message)). (length (joined gs) + 1) * 40 ≤ l.wire.capacity) (sym none) (subst (λ (n : ℕ). 40 ≤ n) (sym capacity) (lit≤ tt))))
+batch-fits format most h l (inr more) is none capacity =
+    let P : ℕ → Type 0 = λ f. HasRoomFor h.shape f (batch_of f most h) l in
+    let few : min most (min (length h.messages) h.credit) ≤ 16 = omega (arith, more.2) in
+    subst P (sym more.0) (subst (λ (s : Shape). HasRoomFor s 2 (batch_of 2 most h) l) (sym is)
+    (subst (λ (gs : List (List Message)). (length (joined gs) + min most (min (length h.messages) h.credit)) * 60 ≤ l.wire.capacity) (sym none) (omega arith)))

@@ -1,6 +1,5 @@
 -- The messages that go on a stream together.
 use Rattle.std.specs.Prelude.{ℕ, ◌-◌, ◌==◌, List, map, drop, if◌then◌else◌}
-use Rattle.xv_credit.specs.Counts.{Count}
 use Rattle.xv_frame.specs.Frame.{Message, message}
 use Rattle.xv_outbox.specs.Messages.{Outbox, Message as Unsent}
 use Rattle.xv_model.specs.View.{UnitHead}

@@ -1,12 +1,11 @@
 //! The operations of the guests, at once and out of a queue.
 
-ghost use Rattle.std.specs.Prelude.{◌≡◌, ◌≤◌, ◌<◌, ◌+◌, ◌-◌, ◌^◌, ◌++◌, ◌∷◌, ◌==◌, ◌&&◌, not, nat_le, [], true, false, length as list_length, set, take, get_or, is_err, is_some, Some, IsNone, IsSome, IfSome, OnOk, OnErr, if◌then◌else◌};
+ghost use Rattle.std.specs.Prelude.{◌≡◌, ◌≤◌, ◌<◌, ◌+◌, ◌-◌, ◌^◌, ◌&&◌, not, nat_le, true, false, length as list_length, take, get_or, is_err, is_some, Some, IsNone, IfSome, OnOk, if◌then◌else◌};
 ghost use Rattle.xv_base.specs.Units.{is_page, units, disk_of, block_of};
-ghost use Rattle.xv_base.specs.Pattern.{repeated};
 ghost use Rattle.xv_device.specs.Device.{range_of};
 ghost use Rattle.xv_device.specs.Told.{HasRoomToCount};
 ghost use Rattle.xv_model.specs.Job.{Job, IsLegal};
-ghost use Rattle.xv_model.specs.View.{View, is_running, is_live, is_switched, no_disk, number, member, block_side, is_behind, in_queue, front};
+ghost use Rattle.xv_model.specs.View.{View, is_running, is_live, is_switched, no_disk, block_side, is_behind, in_queue, front};
 ghost use Rattle.xv_model.specs.Wait.{next_operation, wait};
 ghost use Rattle.xv_model.specs.Guest.{writes_to};
 ghost use Rattle.xv_model.specs.Contents.{front_operation};
@@ -14,7 +13,6 @@ ghost use Rattle.xv_model.specs.Step.{is_flagged};
 ghost use Rattle.xv_base.specs.declared.event.Event.TheVariants.{Guest, Release};
 ghost use Rattle.xv_base.specs.declared.unit.GuestId.{GuestId};
 ghost use Rattle.xv_source.specs.Step.{HasFewVersions, Allows, StepsSource, MakesCall, ReadsInto, operation_call};
-ghost use Rattle.xv_source.specs.Waits.{own_wait};
 ghost use Rattle.xv_source.specs.Operations.{acted, released, stored, mirrored, queued, left, HasActed};
 
 use crate::operate::{operate, write_pattern};

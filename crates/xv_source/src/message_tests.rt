@@ -6,7 +6,7 @@ ghost use Rattle.xv_source.specs.Step.{IsMost};
 use crate::guest_tests::{DISK, done, half_over};
 use std::alloc::Global;
 use std::test::Fail;
-use xv_base::{Layout, NoMemory, Turn, Why};
+use xv_base::{Layout, NoMemory, Turn};
 use xv_streams::{BackWire, Streams};
 use xv_wire::{MemWire, WirePlan};
 
@@ -67,7 +67,6 @@ fn takes_credit_back(rt: HostRuntime) -> Result<(), Fail> {
     let alloc = rt.alloc();
     let mut half = half_over(alloc)?;
     let mut back = BackWire::new(wire(alloc)?);
-    assert_eq!(rt; half.credit(&mut back), Turn::Wait(Why::NothingThere));
     assert!(rt; half.credit.take());
     assert_eq!(rt; back.put_ack(1), Ok(()));
     assert_eq!(rt; half.credit(&mut back), done(1, 0));

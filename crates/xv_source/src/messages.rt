@@ -1,6 +1,6 @@
 //! The messages and their credit.
 
-ghost use Rattle.std.specs.Prelude.{◌≡◌, ◌≤◌, ◌<◌, ◌+◌, ◌-◌, ◌^◌, [], true, None, length, take, get_or, min, if◌then◌else◌, is_err, IfSome, OnOk, OnErr};
+ghost use Rattle.std.specs.Prelude.{◌≡◌, ◌≤◌, ◌<◌, ◌+◌, ◌-◌, ◌^◌, [], true, length, take, get_or, if◌then◌else◌, is_err, IfSome};
 ghost use Rattle.xv_model.specs.Job.{Job};
 ghost use Rattle.xv_model.specs.View.{View, number, no_message};
 ghost use Rattle.xv_model.specs.Step.{is_flagged, is_wait};
@@ -9,7 +9,6 @@ ghost use Rattle.xv_streams.specs.Streamed.{lane, OnlyLane};
 ghost use Rattle.xv_streams.specs.Fronts.{PutsGroup, HasRoomFor};
 ghost use Rattle.xv_streams.specs.Returned.{TakesFirst};
 ghost use Rattle.xv_source.specs.Step.{Allows, StepsSource, MakesNoCall, IsMost, batch_of, batch, joined_messages, went_out};
-ghost use Rattle.xv_source.specs.Waits.{own_wait};
 ghost use Rattle.xv_source.specs.Batches.{past, told_of};
 
 use crate::sending::{put_batch, take_off};

@@ -1,6 +1,6 @@
 //! Messages on their way from an outbox to a stream.
 
-ghost use Rattle.std.specs.Prelude.{◌≡◌, ◌+◌, ◌-◌, ◌<◌, ◌≤◌, ◌^◌, [], length, take, drop, is_err, IfSome};
+ghost use Rattle.std.specs.Prelude.{◌≡◌, ◌-◌, ◌<◌, ◌≤◌, ◌^◌, [], length, take, is_err, IfSome};
 ghost use Rattle.xv_frame.specs.Frame.{Each};
 ghost use Rattle.xv_streams.specs.Streamed.{lane, OnlyLane};
 ghost use Rattle.xv_streams.specs.Fronts.{PutsGroup, HasRoomFor};

@@ -1,9 +1,9 @@
-use Rattle.std.proofs.Common.{◌≡◌, ◌≤◌, ◌<◌, ◌∙◌, ap, arith, sym, subst, length, ℕ}
-use Rattle.xv_base.specs.Units.{Shape, units, size, max_size}
+use Rattle.std.proofs.Common.{◌≡◌, ◌<◌, ◌∙◌, ap, arith, sym, subst, length, ℕ}
+use Rattle.xv_base.specs.Units.{Shape, units, size}
 use Rattle.xv_base.proofs.Partition.{has_greatest_size}
 use Rattle.xv_frame.specs.Frame.{Each}
 use Rattle.xv_outbox.specs.Messages.{UnitHead, message}
-use Rattle.xv_streams.specs.Streamed.{LaneSeen, lane}
+use Rattle.xv_streams.specs.Streamed.{lane}
 use Rattle.xv_streams.specs.Carried.{IsCarried}
 use Rattle.xv_source.proofs.Batching.{each-lane, one-fits}
 use Rattle.xv_source.proofs.sending.put_one.Goals as goal

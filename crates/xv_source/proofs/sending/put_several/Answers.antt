@@ -1,9 +1,8 @@
-use Rattle.std.proofs.Common.{◌≡◌, ◌<◌, ◌∙◌, ap, arith, sym, subst, length, take, ℕ}
-use Rattle.xv_frame.specs.Frame.{Message, Each}
-use Rattle.xv_streams.specs.Streamed.{Streamed, LaneSeen, lane}
+use Rattle.std.proofs.Common.{◌≡◌, ◌<◌, ◌∙◌, ap, sym, subst, length, ℕ}
+use Rattle.xv_frame.specs.Frame.{Each}
+use Rattle.xv_streams.specs.Streamed.{Streamed, lane}
 use Rattle.xv_streams.specs.Carried.{IsCarried}
 use Rattle.xv_streams.specs.Fronts.{HasRoomFor}
-use Rattle.xv_source.specs.Batches.{framed}
 use Rattle.xv_source.proofs.Batching.{each-lane, length-framed, group-fits}
 use Rattle.xv_source.proofs.sending.put_several.Goals as goal
 

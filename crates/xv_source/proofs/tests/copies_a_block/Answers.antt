@@ -1,4 +1,4 @@
-use Rattle.std.specs.Prelude.{◌≡◌, ◌<◌, ℕ, length, replicate}
+use Rattle.std.specs.Prelude.{◌<◌, length}
 use Rattle.std.proofs.Common.{ap, sym, subst, ◌∙◌, arith, lit<}
 use Rattle.xv_base.specs.Units.{Shape, units}
 use Rattle.xv_source.specs.Half.{Source}

@@ -1,8 +1,6 @@
-use Rattle.std.proofs.Common.{◌≡◌, ◌∙◌, ◌<◌, ap, refl, sym, subst, true, false, arith, length, get_or, List, ℕ, Bool}
+use Rattle.std.proofs.Common.{◌≡◌, ◌∙◌, ap, refl, sym, true, false, get_or, List, ℕ}
 use Rattle.std.specs.Prelude.{Option, is_err, is_some}
-use Rattle.xv_base.specs.Units.{Shape, units, is_page, disk_of, block_of}
-use Rattle.xv_base.specs.declared.event.Side.{Side}
-use Rattle.xv_base.specs.declared.event.Side.TheVariants.{Behind}
+use Rattle.xv_base.specs.Units.{is_page, disk_of, block_of}
 use Rattle.xv_model.specs.View.{no_disk, block_side}
 use Rattle.xv_model.specs.Wait.{Alone, Store}
 use Rattle.xv_source.specs.Half.{Source}

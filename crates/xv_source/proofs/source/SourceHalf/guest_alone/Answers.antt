@@ -1,9 +1,5 @@
-use Rattle.std.proofs.Common.{false, true, if◌then◌else◌, subst, sym}
-use Rattle.std.specs.Prelude.{Bool, is_err, ◌≡◌}
-use Rattle.xv_model.specs.Wait.{Alone}
-use Rattle.xv_source.specs.Half.{Source}
-use Rattle.xv_source.specs.Operations.{HasActed}
-use Rattle.xv_source.proofs.Acting.{guest-acted-alone, acts-over, leaves-alone}
+use Rattle.std.specs.Prelude.{is_err}
+use Rattle.xv_source.proofs.Acting.{guest-acted-alone, acts-over}
 use Rattle.xv_source.proofs.source.SourceHalf.guest_alone.Goals as goal
 
 pub returns-clause-step : goal.returns-clause-step

@@ -1,4 +1,4 @@
-use Rattle.std.proofs.Common.{◌≡◌, ◌<◌, ◌++◌, ◌∷◌, [], ◌∙◌, ap, refl, arith, sym, subst, length, List, ℕ, false}
+use Rattle.std.proofs.Common.{◌≡◌, ◌<◌, ◌++◌, ◌∷◌, [], ap, refl, arith, sym, subst, length, List, false}
 use Rattle.std.proofs.lemmas.List.{length-map}
 use Rattle.xv_base.specs.Units.{is_page, units}
 use Rattle.xv_base.specs.declared.operation.Waiting.{Waiting}

@@ -1,4 +1,4 @@
-use Rattle.std.proofs.Common.{◌≡◌, ◌<◌, ap, refl, arith, sym, subst, length, drop, List, ℕ}
+use Rattle.std.proofs.Common.{◌<◌, ap, refl, arith, sym, subst, length, drop, List}
 use Rattle.std.proofs.lemmas.List.{length-map}
 use Rattle.xv_base.specs.declared.operation.Waiting.{Waiting}
 use Rattle.xv_frame.specs.Frame.{Each}

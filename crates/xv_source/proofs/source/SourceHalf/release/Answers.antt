@@ -1,4 +1,4 @@
-use Rattle.std.proofs.Common.{◌∙◌, sym}
+use Rattle.std.proofs.Common.{sym}
 use Rattle.xv_model.specs.Step.{is_flagged}
 use Rattle.xv_source.proofs.Releasing.{released-mirrored}
 use Rattle.xv_source.proofs.source.SourceHalf.release.Goals as goal

@@ -1,4 +1,4 @@
-use Rattle.std.proofs.Common.{◌≤◌, ◌∙◌, ap, sym, subst, arith, length, ℕ}
+use Rattle.std.proofs.Common.{◌≤◌, ◌∙◌, ap, sym, subst, length, ℕ}
 use Rattle.xv_base.specs.declared.answer.Cause.TheVariants.{Put}
 use Rattle.xv_base.specs.declared.answer.Turn.TheVariants.{Failed}
 use Rattle.xv_base.specs.declared.event.Event.TheVariants.{Send}

@@ -2,7 +2,7 @@ use Rattle.std.proofs.Common.{◌≡◌, ◌∙◌, ap, arith, sym, subst, lengt
 use Rattle.xv_base.specs.Units.{Shape, is_page, size}
 use Rattle.xv_model.specs.Job.{IsLegal}
 use Rattle.xv_source.specs.Half.{Source}
-use Rattle.xv_source.proofs.Guesting.{len_fits, whole_block, length_repeated, written_back}
+use Rattle.xv_source.proofs.Guesting.{whole_block, length_repeated, written_back}
 use Rattle.xv_source.proofs.source.SourceHalf.write_mirrored.Goals as goal
 
 pub slice_bounds-bytes-end : goal.slice_bounds-bytes-end
