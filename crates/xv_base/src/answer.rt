@@ -55,8 +55,6 @@ pub enum Turn {
     Wait(Why),
     /// A call on the outside failed, and the migration with it.
     Failed(Cause),
-    /// There was no memory for it, and nothing has changed.
-    NoMemory,
 }
 
 /// An event that did not wait, with its answer.

@@ -5,7 +5,7 @@ use Rattle.std.proofs.lemmas.List.{append-nil}
 use Rattle.xv_base.specs.Pattern.{repeated}
 use Rattle.xv_base.specs.Units.{Shape, is_page}
 use Rattle.xv_base.specs.declared.answer.Note.{Note}
-use Rattle.xv_base.specs.declared.answer.Turn.TheVariants.{Done, Queued, Faulted, Wait as Waits, Failed as Broke, NoMemory}
+use Rattle.xv_base.specs.declared.answer.Turn.TheVariants.{Done, Queued, Faulted, Wait as Waits, Failed as Broke}
 use Rattle.xv_base.specs.declared.event.Event.TheVariants.{Guest}
 use Rattle.xv_base.specs.declared.event.Phase.TheVariants.{Running, Stunned, Switched, Cancelled, Failed}
 use Rattle.xv_base.specs.declared.operation.Outcome.TheVariants.{Done as WasDone, Faulted as HasFaulted}
@@ -214,10 +214,6 @@ by-answer s g (Waits why) new bytes x = let no : true ≡ false = x.goes_on in a
 by-answer s g (Broke cause) new bytes x =
     let job = job_of s.job in
     let no : false ≡ true = ap is_ending x.steps.answers ∙ is-ending (wait job (view s) (Guest g) true) (breaks job (view s) (Guest g) true) job (view s) g in
-    absurd (cc)
-by-answer s g NoMemory new bytes x =
-    let job = job_of s.job in
-    let no : false ≡ true = ap is_ending x.steps.answers ∙ is-ending (wait job (view s) (Guest g) false) (breaks job (view s) (Guest g) false) job (view s) g in
     absurd (cc)
 
 pub guest-at-dest : (s : State) (g : GuestId) (a : Turn) (new : Dest) (bytes : List ℕ) (op : UnitOp) → next_operation (job_of s.job) (view s) g.0 ≡ op → AtDest s g a new bytes op →

@@ -3,7 +3,7 @@ use Rattle.std.specs.Prelude.{◌≡◌, ◌≤◌, ◌<◌, ℕ, length, ◌&&�
 use Rattle.std.proofs.Common.{arith, refl, ap, sym, subst, ◌∙◌}
 use Rattle.std.proofs.lemmas.List.{append-nil, length-append}
 use Rattle.xv_base.specs.declared.answer.Note.{Note}
-use Rattle.xv_base.specs.declared.answer.Turn.TheVariants.{Done, Queued, Faulted, Wait as Waits, Failed as Broke, NoMemory}
+use Rattle.xv_base.specs.declared.answer.Turn.TheVariants.{Done, Queued, Faulted, Wait as Waits, Failed as Broke}
 use Rattle.xv_base.specs.declared.event.Event.TheVariants.{Guest}
 use Rattle.xv_base.specs.declared.operation.Outcome.{Outcome}
 use Rattle.xv_base.specs.declared.operation.Outcome.TheVariants.{Done as WasDone, Faulted as HasFaulted}
@@ -92,7 +92,6 @@ is_ending Queued = true
 is_ending Faulted = true
 is_ending (Waits why) = true
 is_ending (Broke cause) = false
-is_ending NoMemory = false
 
 ending-if : (j : Bool) (a b : ℕ) → is_ending (if j then Queued else note a b) ≡ true
 ending-if true a b = refl
@@ -319,10 +318,6 @@ by-answer s g (Waits why) new bytes x = let no : true ≡ false = x.goes_on in a
 by-answer s g (Broke cause) new bytes x =
     let job = job_of s.job in
     let no : false ≡ true = ap is_ending x.steps.answers ∙ is-ending (wait job (view s) (Guest g) true) (breaks job (view s) (Guest g) true) job (view s) g in
-    absurd (cc)
-by-answer s g NoMemory new bytes x =
-    let job = job_of s.job in
-    let no : false ≡ true = ap is_ending x.steps.answers ∙ is-ending (wait job (view s) (Guest g) false) (breaks job (view s) (Guest g) false) job (view s) g in
     absurd (cc)
 
 pub guest-at-source : (s : State) (g : GuestId) (a : Turn) (new : Source) (bytes : List ℕ) (op : UnitOp) → next_operation (job_of s.job) (view s) g.0 ≡ op → AtSource s g a new bytes op →

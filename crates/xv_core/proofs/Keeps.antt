@@ -7,7 +7,7 @@ use Rattle.std.proofs.lemmas.Bool.{and_from, eq-eqb}
 use Rattle.std.proofs.lemmas.List.Folds.{list_all-append}
 use Rattle.xv_base.specs.declared.answer.Cause.{Cause}
 use Rattle.xv_base.specs.declared.answer.Cause.TheVariants.{SourceRead, DestWrite, Flush, Put, Take, AckPut, AckTake}
-use Rattle.xv_base.specs.declared.answer.Turn.TheVariants.{Done, Queued, Faulted, Wait as Waits, Failed as Broke, NoMemory}
+use Rattle.xv_base.specs.declared.answer.Turn.TheVariants.{Done, Queued, Faulted, Wait as Waits, Failed as Broke}
 use Rattle.xv_base.specs.declared.answer.Why.{Why}
 use Rattle.xv_base.specs.declared.event.Event.TheVariants.{Guest, Begin, Read, Advance, Release, Round, Page, Send, Deliver, Apply, Ack, Credit, Stun, Switch, Cancel}
 use Rattle.xv_device.specs.Device.{DeviceCall}
@@ -79,7 +79,6 @@ has_memory Queued = true
 has_memory Faulted = true
 has_memory (Waits why) = true
 has_memory (Broke cause) = true
-has_memory NoMemory = false
 
 memory-if : (c : Bool) (a b : Turn) → has_memory a ≡ true → has_memory b ≡ true → has_memory (if c then a else b) ≡ true
 memory-if true a b h k = h
@@ -140,7 +139,6 @@ same-turn Queued goes memory = refl
 same-turn Faulted goes memory = refl
 same-turn (Waits why) goes memory = absurd (cc)
 same-turn (Broke cause) goes memory = same-cause cause
-same-turn NoMemory goes memory = absurd (cc)
 
 pub same-answer : (job : Job) (v : View) (e : Event) (a : Turn) → is_wait a ≡ false → a ≡ turn job v e (is_flagged a) → same_turn a (turn job v e (is_flagged a)) ≡ true
 same-answer job v e a goes is =

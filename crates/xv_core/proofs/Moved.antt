@@ -2,7 +2,7 @@
 use Rattle.std.specs.Prelude.{◌≡◌, ℕ, ◌&&◌, Bool, true, false, List, [], ◌∷◌, ◌++◌, length, Option, Some, None, if◌then◌else◌}
 use Rattle.std.proofs.Common.{refl, ap, sym, subst, ◌∙◌, inl, inr}
 use Rattle.std.proofs.lemmas.Bool.{cases_Bool}
-use Rattle.xv_base.specs.declared.answer.Turn.TheVariants.{Done, Queued, Faulted, Wait as Waits, Failed as Broke, NoMemory}
+use Rattle.xv_base.specs.declared.answer.Turn.TheVariants.{Done, Queued, Faulted, Wait as Waits, Failed as Broke}
 use Rattle.xv_base.specs.declared.answer.Why.{Why}
 use Rattle.xv_base.specs.declared.event.Phase.TheVariants.{Failed as FailedPhase}
 use Rattle.xv_device.specs.Told.{Told}
@@ -155,7 +155,6 @@ unfailed Queued e = refl
 unfailed Faulted e = absurd (cc)
 unfailed (Waits why) e = refl
 unfailed (Broke cause) e = absurd (cc)
-unfailed NoMemory e = refl
 
 -- what is waited for where an answer is no wait
 nothing : (w : Option Why) (b : Bool) (job : Job) (v : View) (e : Event) → is_wait (turn_by w b job v e) ≡ false → w ≡ None

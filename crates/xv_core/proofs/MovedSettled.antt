@@ -3,7 +3,7 @@
 use Rattle.std.specs.Prelude.{◌≡◌, ◌≤◌, ◌<◌, ℕ, ◌+◌, not, Bool, true, false, List, [], ◌∷◌, ◌++◌, length, Option, Some, None, if◌then◌else◌}
 use Rattle.std.proofs.Common.{arith, refl, ap, sym, subst, ◌∙◌, inl, inr, append-nil}
 use Rattle.std.proofs.lemmas.Bool.{cases_Bool}
-use Rattle.xv_base.specs.declared.answer.Turn.TheVariants.{Done, Queued, Faulted, Wait as Waits, Failed as Broke, NoMemory}
+use Rattle.xv_base.specs.declared.answer.Turn.TheVariants.{Done, Queued, Faulted, Wait as Waits, Failed as Broke}
 use Rattle.xv_base.specs.declared.answer.Why.{Why}
 use Rattle.xv_base.specs.declared.event.Phase.TheVariants.{Failed as FailedPhase}
 use Rattle.xv_model.specs.Job.{Job}
@@ -49,7 +49,6 @@ wait-unflagged Queued e = absurd (cc)
 wait-unflagged Faulted e = absurd (cc)
 wait-unflagged (Waits why) e = (refl, refl)
 wait-unflagged (Broke cause) e = absurd (cc)
-wait-unflagged NoMemory e = absurd (cc)
 
 waits-by : (w : Option Why) (job : Job) (v : View) (e : Event) (a : Turn) → is_wait (answer job v e) ≡ false → a ≡ turn_by w false job v e → is_wait a ≡ true → (why : Why) × (a ≡ Waits why) × (w ≡ Some why)
 waits-by None job v e a no_wait answers waits = absurd (let done : is_wait a ≡ false = ap is_wait answers ∙ no_wait in cc)

@@ -2,7 +2,7 @@
 use Rattle.std.specs.Prelude.{◌≡◌, ◌≤◌, ℕ, Bool, true, false, List, [], ◌++◌, length, get_or, Option, Some, None, is_some, if◌then◌else◌}
 use Rattle.std.proofs.Common.{refl, sym, subst}
 use Rattle.std.proofs.lemmas.List.{append-nil}
-use Rattle.xv_base.specs.declared.answer.Turn.TheVariants.{Done, Queued, Faulted, Wait as Waits, Failed as Broke, NoMemory}
+use Rattle.xv_base.specs.declared.answer.Turn.TheVariants.{Done, Queued, Faulted, Wait as Waits, Failed as Broke}
 use Rattle.xv_base.specs.declared.answer.Why.{Why}
 use Rattle.xv_base.specs.declared.event.Event.TheVariants.{Guest, Release}
 use Rattle.xv_base.specs.declared.unit.GuestId.{GuestId}
@@ -56,7 +56,6 @@ guest-stands s g (Done n) source dest op bytes answers source_is dest_is waits =
 guest-stands s g Queued source dest op bytes answers source_is dest_is waits = absurd (cc)
 guest-stands s g Faulted source dest op bytes answers source_is dest_is waits = absurd (cc)
 guest-stands s g (Broke cause) source dest op bytes answers source_is dest_is waits = absurd (cc)
-guest-stands s g NoMemory source dest op bytes answers source_is dest_is waits = absurd (cc)
 
 release-stands : (s : State) (d : ℕ) (g : GuestId) (a : Turn) (source : Source) → a ≡ turn (job_of s.job) (view s) (Release d) (is_flagged a) → source ≡ s.source → is_wait a ≡ true →
     Stands s (Release d) a (ended_by g a) source s.dest []
@@ -73,7 +72,6 @@ release-stands s d g (Done n) source answers source_is waits = absurd (cc)
 release-stands s d g Queued source answers source_is waits = absurd (cc)
 release-stands s d g Faulted source answers source_is waits = absurd (cc)
 release-stands s d g (Broke cause) source answers source_is waits = absurd (cc)
-release-stands s d g NoMemory source answers source_is waits = absurd (cc)
 
 -- A guest's operation on the source.
 pub guest-answers-at-source : (s : State) (g : GuestId) (a : Turn) (new : Source) (bytes : List ℕ) (op : UnitOp) → IsState s → fits (job_of s.job) (Guest g) ≡ true → is_switched (view s).phase ≡ false → next_operation (job_of s.job) (view s) g.0 ≡ op → 64 ≤ length bytes →

@@ -2,7 +2,7 @@
 use Rattle.std.specs.Prelude.{◌≡◌, ◌<◌, length, is_none, ℕ, Bool, true, false, List, [], ◌∷◌, ◌++◌, get_or, Option, Some, None, is_some, if◌then◌else◌}
 use Rattle.std.proofs.Common.{arith, refl, ap, sym, subst, ◌∙◌}
 use Rattle.xv_base.specs.declared.answer.Note.{Note}
-use Rattle.xv_base.specs.declared.answer.Turn.TheVariants.{Done, Queued, Faulted, Wait as Waits, Failed as Broke, NoMemory}
+use Rattle.xv_base.specs.declared.answer.Turn.TheVariants.{Done, Queued, Faulted, Wait as Waits, Failed as Broke}
 use Rattle.xv_base.specs.declared.event.Event.TheVariants.{Release}
 use Rattle.xv_base.specs.declared.operation.Outcome.{Outcome}
 use Rattle.xv_base.specs.declared.operation.Outcome.TheVariants.{Done as WasDone, Faulted as HasFaulted}
@@ -55,7 +55,6 @@ is_ending Queued = false
 is_ending Faulted = true
 is_ending (Waits why) = true
 is_ending (Broke cause) = false
-is_ending NoMemory = false
 
 ends-so : (w : Option Why) (b : Bool) (job : Job) (v : View) (d : ℕ) → is_ending (turn_by w b job v (Release d)) ≡ true
 ends-so (Some why) b job v d = refl
@@ -207,7 +206,4 @@ release-at-source s d Faulted new op w x = release-faulted s d new op w x
 release-at-source s d (Waits why) new op w x = let no : true ≡ false = x.goes_on in absurd (cc)
 release-at-source s d (Broke cause) new op w x =
     let no : false ≡ true = ap is_ending x.steps.answers ∙ ends-so (wait (job_of s.job) (view s) (Release d) true) true (job_of s.job) (view s) d in
-    absurd (cc)
-release-at-source s d NoMemory new op w x =
-    let no : false ≡ true = ap is_ending x.steps.answers ∙ ends-so (wait (job_of s.job) (view s) (Release d) false) false (job_of s.job) (view s) d in
     absurd (cc)

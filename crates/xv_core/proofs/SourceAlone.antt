@@ -2,7 +2,7 @@
 use Rattle.std.specs.Prelude.{◌≡◌, ℕ, ◌&&◌, Bool, true, false, List, [], ◌∷◌, ◌++◌, length, Option, Some, None, unwrap_or, if◌then◌else◌}
 use Rattle.std.proofs.Common.{refl, ap, sym, subst, ◌∙◌, inl, inr}
 use Rattle.std.proofs.lemmas.Bool.{cases_Bool}
-use Rattle.xv_base.specs.declared.answer.Turn.TheVariants.{Done, Queued, Faulted, Wait as Waits, Failed as Broke, NoMemory}
+use Rattle.xv_base.specs.declared.answer.Turn.TheVariants.{Done, Queued, Faulted, Wait as Waits, Failed as Broke}
 use Rattle.xv_base.specs.declared.answer.Why.{Why}
 use Rattle.xv_base.specs.declared.event.Phase.TheVariants.{Failed as FailedPhase}
 use Rattle.xv_device.specs.Told.{Told}
@@ -125,7 +125,6 @@ failed-flagged Queued e = absurd (cc)
 failed-flagged Faulted e = refl
 failed-flagged (Waits why) e = absurd (cc)
 failed-flagged (Broke cause) e = refl
-failed-flagged NoMemory e = absurd (cc)
 
 pub unflagged-unfailed : (a : Turn) → is_flagged a ≡ false → is_failed a ≡ false
 unflagged-unfailed (Done n) e = refl
@@ -133,7 +132,6 @@ unflagged-unfailed Queued e = refl
 unflagged-unfailed Faulted e = absurd (cc)
 unflagged-unfailed (Waits why) e = refl
 unflagged-unfailed (Broke cause) e = absurd (cc)
-unflagged-unfailed NoMemory e = refl
 
 -- an answer that is no wait comes of an event that goes on
 goes-by : (w : Option Why) (b : Bool) (job : Job) (v : View) (e : Event) → is_wait (turn_by w b job v e) ≡ false → w ≡ None

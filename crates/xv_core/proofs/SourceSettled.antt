@@ -3,7 +3,7 @@
 use Rattle.std.specs.Prelude.{◌≡◌, ◌≤◌, ◌<◌, ℕ, ◌+◌, Bool, true, false, List, [], ◌∷◌, ◌++◌, length, Option, Some, None, if◌then◌else◌}
 use Rattle.std.proofs.Common.{arith, refl, ap, sym, subst, ◌∙◌, inl, inr, append-nil}
 use Rattle.std.proofs.lemmas.Bool.{cases_Bool}
-use Rattle.xv_base.specs.declared.answer.Turn.TheVariants.{Done, Queued, Faulted, Wait as Waits, Failed as Broke, NoMemory}
+use Rattle.xv_base.specs.declared.answer.Turn.TheVariants.{Done, Queued, Faulted, Wait as Waits, Failed as Broke}
 use Rattle.xv_base.specs.declared.event.Phase.TheVariants.{Stunned, Failed as FailedPhase}
 use Rattle.xv_base.specs.declared.event.Event.TheVariants.{Stun}
 use Rattle.xv_model.specs.Job.{Job}
@@ -40,7 +40,6 @@ wait-unflagged Queued e = absurd (cc)
 wait-unflagged Faulted e = absurd (cc)
 wait-unflagged (Waits why) e = (refl, refl)
 wait-unflagged (Broke cause) e = absurd (cc)
-wait-unflagged NoMemory e = absurd (cc)
 
 no-entry : (e : Event) (a : Turn) → is_wait a ≡ true → entry_of e a ≡ []
 no-entry e a waits = ap (λ (b : Bool). if b then [] else record { event = e; turn = a } ∷ []) waits
@@ -175,4 +174,3 @@ no-wait Queued none = refl
 no-wait Faulted none = refl
 no-wait (Waits why) none = absurd (none why refl)
 no-wait (Broke cause) none = refl
-no-wait NoMemory none = refl

@@ -1,6 +1,6 @@
 -- What an event leaves behind beside its own effect: its entry, and the end of the migration where a call of it failed.
 use Rattle.std.specs.Prelude.{Bool, true, false}
-use Rattle.xv_base.specs.declared.answer.Turn.TheVariants.{Done, Queued, Faulted, Wait, Failed, NoMemory}
+use Rattle.xv_base.specs.declared.answer.Turn.TheVariants.{Done, Queued, Faulted, Wait, Failed}
 use Rattle.xv_model.specs.Job.{Job}
 use Rattle.xv_model.specs.View.{View, Phase}
 use Rattle.xv_model.specs.Effect.{Turn, given_up}
@@ -15,7 +15,6 @@ is_failed Queued = false
 is_failed Faulted = false
 is_failed (Wait why) = false
 is_failed (Failed cause) = true
-is_failed NoMemory = false
 
 -- the source's half has given every region up, and made no call
 pub record Abandoned (old new : Source) : Type 0 where

@@ -21,7 +21,7 @@ pub(crate) fn end(history: &mut History, guest: GuestId, turn: Turn)
             guest,
             outcome: Outcome::Faulted,
         }),
-        Turn::Queued | Turn::Wait(_) | Turn::Failed(_) | Turn::NoMemory => {}
+        Turn::Queued | Turn::Wait(_) | Turn::Failed(_) => {}
     }
 }
 

@@ -1,6 +1,6 @@
 -- What the front of a stream does to the destination's half.
 use Rattle.std.specs.Prelude.{◌≡◌, ℕ, ◌==◌, List, [], ◌∷◌, ◌++◌, length, get_or, if◌then◌else◌}
-use Rattle.xv_base.specs.declared.answer.Turn.TheVariants.{Done, Queued, Faulted, Wait, Failed, NoMemory}
+use Rattle.xv_base.specs.declared.answer.Turn.TheVariants.{Done, Queued, Faulted, Wait, Failed}
 use Rattle.xv_base.specs.declared.answer.Why.TheVariants.{NothingThere}
 use Rattle.xv_base.specs.declared.answer.Cause.TheVariants.{Take}
 use Rattle.xv_frame.specs.Frame.{Message}
@@ -31,4 +31,3 @@ Arrives format stream Queued groups old new = ⊥
 Arrives format stream Faulted groups old new = ⊥
 Arrives format stream (Wait why) groups old new = (why ≡ NothingThere) × (groups ≡ []) × (new ≡ old)
 Arrives format stream (Failed cause) groups old new = (cause ≡ Take stream) × (new ≡ old)
-Arrives format stream NoMemory groups old new = ⊥

@@ -1,6 +1,6 @@
 -- What each event does to the destination's half.
 use Rattle.std.specs.Prelude.{◌≡◌, ℕ, ◌&&◌, nat_le, not, Bool, true, false, [], length, get_or}
-use Rattle.xv_base.specs.declared.answer.Turn.TheVariants.{Done, Queued, Faulted, Wait, Failed, NoMemory}
+use Rattle.xv_base.specs.declared.answer.Turn.TheVariants.{Done, Queued, Faulted, Wait, Failed}
 use Rattle.xv_base.specs.declared.event.Event.TheVariants.{Guest, Begin, Read, Advance, Release, Round, Page, Send, Deliver, Apply, Ack, Credit, Stun, Switch, Cancel}
 use Rattle.xv_device.specs.Device.{DeviceCall, WriteUnit}
 use Rattle.xv_device.specs.Told.{CallMade}
@@ -58,7 +58,6 @@ went_out Queued = false
 went_out Faulted = true
 went_out (Wait why) = false
 went_out (Failed cause) = true
-went_out NoMemory = false
 
 -- exactly this call was made of the device where the answer tells of one, and failed where it says so; else none was
 pub record MakesCall (call : DeviceCall) (answer : Turn) (old new : Dest) : Type 0 where

@@ -6,7 +6,7 @@ use Rattle.xv_model.specs.View.{View, first_view, is_switched}
 use Rattle.xv_model.specs.Wait.{Event, Why, wait, next_operation, next_aim, is_join}
 use Rattle.xv_model.specs.Effect.{Turn, Note, effect, fault_effect, answer, fault_answer}
 use Rattle.xv_base.specs.declared.event.Event.TheVariants.{Guest, Begin, Read, Advance, Release, Round, Page, Send, Deliver, Apply, Ack, Credit, Stun, Switch, Cancel}
-use Rattle.xv_base.specs.declared.answer.Turn.TheVariants.{Done, Queued, Faulted, Wait, Failed, NoMemory}
+use Rattle.xv_base.specs.declared.answer.Turn.TheVariants.{Done, Queued, Faulted, Wait, Failed}
 use Rattle.xv_base.specs.declared.answer.Cause.{Cause}
 use Rattle.xv_base.specs.declared.answer.Cause.TheVariants.{SourceRead as ReadBroke, DestWrite as WriteBroke, Flush as FlushBroke, Put as PutBroke, Take as TakeBroke, AckPut as AckPutBroke, AckTake as AckTakeBroke}
 use Rattle.xv_base.specs.declared.limits.Fault.TheVariants.{SourceRead as FailRead, SourceWrite as FailWrite, DestRead as FailDestRead, DestWrite as FailDestWrite, Flush as FailFlush, Put as FailPut, Take as FailTake, AckPut as FailAckPut, AckTake as FailAckTake}
@@ -94,7 +94,6 @@ is_flagged Queued = false
 is_flagged Faulted = true
 is_flagged (Wait why) = false
 is_flagged (Failed cause) = true
-is_flagged NoMemory = false
 
 abbrev pub is_wait : Turn → Bool
 is_wait (Done n) = false
@@ -102,7 +101,6 @@ is_wait Queued = false
 is_wait Faulted = false
 is_wait (Wait why) = true
 is_wait (Failed cause) = false
-is_wait NoMemory = false
 
 -- the view after a journal, each entry's call failing where its answer says so
 abbrev pub after : Job → View → List Entry → View

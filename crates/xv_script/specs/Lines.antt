@@ -7,7 +7,7 @@ use Rattle.xv_base.specs.declared.event.Side.TheVariants.{Ahead, Inside, Behind,
 use Rattle.xv_base.specs.declared.event.Event.TheVariants.{Guest, Begin, Read, Advance, Release, Round, Page, Send, Deliver, Apply, Ack, Credit, Stun, Switch, Cancel}
 use Rattle.xv_base.specs.declared.answer.Note.{Note}
 use Rattle.xv_base.specs.declared.answer.Turn.{Turn}
-use Rattle.xv_base.specs.declared.answer.Turn.TheVariants.{Done, Queued, Faulted, Wait, Failed, NoMemory}
+use Rattle.xv_base.specs.declared.answer.Turn.TheVariants.{Done, Queued, Faulted, Wait, Failed}
 use Rattle.xv_base.specs.declared.answer.Why.{Why}
 use Rattle.xv_base.specs.declared.answer.Why.TheVariants.{TraceEnd, InQueue, CancelDue, Stunned, Throttled, NoCredit, NothingThere, NotNow}
 use Rattle.xv_base.specs.declared.answer.Cause.{Cause}
@@ -91,7 +91,6 @@ turn_text event Queued read = codes "queued"
 turn_text event Faulted read = codes "faulted"
 turn_text event (Wait why) read = codes "wait " ++ why_words why
 turn_text event (Failed cause) read = codes "failed " ++ cause_words cause
-turn_text event NoMemory read = codes "no-memory"
 
 -- the line of an event and its answer
 abbrev pub turn_line : Event → Turn → List ℕ → List ℕ

@@ -87,7 +87,6 @@ fn push_turn(line: &mut LineBuf, event: Event, turn: Turn, read: &[u8])
         Turn::Faulted => push_word(line, b"faulted"),
         Turn::Wait(why) => push_why(line, why),
         Turn::Failed(cause) => push_cause(line, cause),
-        Turn::NoMemory => push_word(line, b"no-memory"),
     }
 }
 

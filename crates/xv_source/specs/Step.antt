@@ -2,7 +2,7 @@
 use Rattle.std.specs.Prelude.{◌≡◌, ◌≤◌, ◌<◌, ◌⊎◌, ℕ, ◌==◌, ◌&&◌, ◌^◌, ◌-◌, min, nat_le, nat_lt, not, Bool, true, false, List, [], ◌∷◌, take, length, Option, Some, None, IfSome, if◌then◌else◌}
 use Rattle.xv_base.specs.Units.{Shape, is_page, size}
 use Rattle.xv_base.specs.Pattern.{repeated}
-use Rattle.xv_base.specs.declared.answer.Turn.TheVariants.{Done, Queued, Faulted, Wait, Failed, NoMemory}
+use Rattle.xv_base.specs.declared.answer.Turn.TheVariants.{Done, Queued, Faulted, Wait, Failed}
 use Rattle.xv_base.specs.declared.event.Event.TheVariants.{Guest, Begin, Read, Advance, Release, Round, Page, Send, Deliver, Apply, Ack, Credit, Stun, Switch, Cancel}
 use Rattle.xv_frame.specs.Frame.{Message, message}
 use Rattle.xv_device.specs.Device.{DeviceCall, range_of}
@@ -79,7 +79,6 @@ went_out Queued = false
 went_out Faulted = true
 went_out (Wait why) = false
 went_out (Failed cause) = true
-went_out NoMemory = false
 
 -- exactly this call was made of the device where the answer tells of one, and failed where it says so; else none was
 pub record MakesCall (call : DeviceCall) (answer : Turn) (old new : Source) : Type 0 where

@@ -6,7 +6,7 @@ use Rattle.xv_base.specs.declared.unit.DiskShape.{DiskShape}
 use Rattle.xv_base.specs.Units.{blocks_of}
 use Rattle.xv_base.specs.declared.event.Event.TheVariants.{Guest, Begin, Read, Advance, Release, Round, Page, Send, Deliver, Apply, Ack, Credit, Stun, Switch, Cancel}
 use Rattle.xv_base.specs.declared.event.Phase.TheVariants.{Cancelled, Failed}
-use Rattle.xv_base.specs.declared.answer.Turn.TheVariants.{Done, Queued, Faulted, Wait as Waits, Failed as Broke, NoMemory}
+use Rattle.xv_base.specs.declared.answer.Turn.TheVariants.{Done, Queued, Faulted, Wait as Waits, Failed as Broke}
 use Rattle.xv_model.specs.Job.{Job, IsGoodJob, operation_count}
 use Rattle.xv_model.specs.View.{View, UnitHead, is_live, first_view, members, no_disk}
 use Rattle.xv_model.specs.Wait.{Event, Why, wait, fits, next_operation, next_aim}
@@ -129,12 +129,10 @@ agrees-goes s (Done n) h = refl
 agrees-goes s Queued h = refl
 agrees-goes s Faulted h = refl
 agrees-goes s (Broke c) h = refl
-agrees-goes s NoMemory h = refl
 agrees-goes (Done n) (Waits why) h = absurd (cc)
 agrees-goes Queued (Waits why) h = absurd (cc)
 agrees-goes Faulted (Waits why) h = absurd (cc)
 agrees-goes (Broke c) (Waits why) h = absurd (cc)
-agrees-goes NoMemory (Waits why) h = absurd (cc)
 agrees-goes (Waits other) (Waits why) h = absurd (cc)
 
 -- a journal is no longer than the work that it did
