@@ -1,16 +1,19 @@
 -- What one step of a migration does, as contracts see it.
-use Rattle.std.specs.Prelude.{◌≡◌, ◌≤◌, ℕ, ◌+◌, ◌-◌, ◌^◌, ◌<◌, min, Bool, true, false, List, ◌++◌, map, length, IfSome, if◌then◌else◌}
+use Rattle.std.specs.Prelude.{◌≡◌, ◌≤◌, ℕ, ◌+◌, ◌-◌, ◌^◌, ◌<◌, ◌&&◌, min, Bool, true, false, List, ◌++◌, map, length, None, is_some, IfSome, if◌then◌else◌}
+use Rattle.std.specs.List.{list_all}
 use Rattle.xv_model.specs.Job.{Job, unit_count}
 use Rattle.xv_model.specs.Guest.{read_bytes}
 use Rattle.xv_model.specs.View.{View, number, is_switched}
-use Rattle.xv_model.specs.Wait.{Event}
+use Rattle.xv_model.specs.Wait.{Event, wait}
 use Rattle.xv_model.specs.Effect.{Turn}
 use Rattle.xv_model.specs.Step.{turn, step, entry_of, is_flagged, is_wait}
 use Rattle.xv_model.specs.Contents.{unit_content}
 use Rattle.xv_model.specs.Outside.{Outside, NoOutside, ReadSource, WriteSource, ReadDest, WriteDest, FlushDest, PutOn, TakeFrom, PutBack, TakeBack, outside}
+use Rattle.xv_model.specs.Report.{is_written}
 use Rattle.xv_job.specs.Written.{job_of}
 use Rattle.xv_core.specs.Seen.{Seen, OnWire, view_of, wire}
 use Rattle.xv_core.specs.Rising.{Rises, TakesRise}
+use Rattle.xv_core.specs.Keeping.{told_contents, tells}
 
 -- the faults of an object rose, or stand at the last value of 64 bits
 abbrev pub Rose : ℕ → ℕ → Type 0
@@ -42,6 +45,31 @@ pub record IsAsBefore (old new : Seen) : Type 0 where
   pub dest : new.dest ≡ old.dest
   pub wires : map told_by new.wires ≡ map told_by old.wires
   pub back : told_by new.back ≡ told_by old.back
+
+-- a unit of the destination that is not written holds what it held
+pub record KeepsUnwritten (old new : Seen) : Type 0 where
+  pub units : (unit : ℕ) → is_written (view_of new) unit ≡ false → unit_content (told_contents new.dest) unit ≡ unit_content (told_contents old.dest) unit
+
+-- the bytes that an event read for its guest come behind those read before: none where it is no read, at most 64
+pub record ReadsMore (old : Seen) (event : Event) (answer : Turn) (new : Seen) : Type 0 where
+  pub bytes : List ℕ
+  pub behind : new.reads ≡ old.reads ++ bytes
+  pub long : length bytes ≡ length (read_bytes (job_of old.job) (step (job_of old.job) (view_of old) event (is_flagged answer)).history (length (view_of old).history))
+  pub few : length bytes ≤ 64
+
+-- where all wires tell their plans, a call failed only where its event had something to do: a take meets no fault where
+-- nothing is in transit
+abbrev pub tells_plans : Seen → Bool
+tells_plans m = list_all (λ w. is_some w.told.counted) m.wires && is_some m.back.told.counted
+
+abbrev pub FindsSome : Seen → Event → Turn → Type 0
+FindsSome old event answer =
+    tells_plans old ≡ true → is_flagged answer ≡ true → wait (job_of old.job) (view_of old) event false ≡ None
+
+-- a device that tells what it holds goes on to tell it, and one that does not tells nothing
+pub record TellsOn (old new : Seen) : Type 0 where
+  pub source : tells new.source ≡ tells old.source
+  pub dest : tells new.dest ≡ tells old.dest
 
 -- One step: the answer is the machine's, where a call on the outside fails or not; the journal has one entry more, or as
 -- many as before where the event waits; a wait changes nothing; all that is counted rises by the journal's calls, and no

@@ -1,4 +1,0 @@
-pub mod Copies
-pub mod Seen
-pub mod State
-pub mod Fields
