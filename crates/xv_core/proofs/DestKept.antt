@@ -1,16 +1,16 @@
 -- A unit of the destination that is not written after an event holds what it held.
-use Rattle.std.specs.Prelude.{◌≡◌, ◌<◌, ℕ, ◌==◌, ◌||◌, nat_lt, Bool, true, false, List, [], length, set, get_or, Option, Some, None, option_map, unwrap_or, is_some, if◌then◌else◌}
+use Rattle.std.specs.Prelude.{◌≡◌, ◌<◌, ℕ, ◌==◌, nat_lt, Bool, true, false, List, [], length, set, Option, Some, None, option_map, unwrap_or, is_some, if◌then◌else◌}
 use Rattle.std.proofs.Common.{arith, refl, ap, sym, subst, ◌∙◌, inl, inr}
-use Rattle.std.proofs.lemmas.Bool.{cases_eq, cases_Bool, ne_eqb, eq-eqb, ltb-false, false≢true, or_parts}
+use Rattle.std.proofs.lemmas.Bool.{cases_eq, ne_eqb, eq-eqb, ltb-false, false≢true, or_parts}
 use Rattle.std.proofs.lemmas.List.{get_or-set_same, get_or-set_other}
 use Rattle.xv_base.specs.declared.event.Event.TheVariants.{Guest, Apply}
-use Rattle.xv_device.specs.Device.{DeviceCall, NoCall, ReadRange, PatchRange, WriteUnit, FlushAll, contents_after}
+use Rattle.xv_device.specs.Device.{DeviceCall, ReadRange, FlushAll, contents_after}
 use Rattle.xv_device.specs.Told.{Told}
 use Rattle.xv_model.specs.Job.{Job, UnitOp}
 use Rattle.xv_model.specs.View.{View, number, is_ready, is_switched, ready_message}
 use Rattle.xv_model.specs.Wait.{Event, Why, wait, next_operation, next_aim, is_join}
-use Rattle.xv_model.specs.Effect.{Turn, effect, fault_effect, applied_next}
-use Rattle.xv_model.specs.Step.{breaks, step, view_by, is_flagged}
+use Rattle.xv_model.specs.Effect.{Turn, effect, applied_next}
+use Rattle.xv_model.specs.Step.{step, view_by, is_flagged}
 use Rattle.xv_model.specs.Contents.{unit_content}
 use Rattle.xv_model.specs.Invariant.{IsViewOf}
 use Rattle.xv_model.specs.Outstanding.{outstanding}

@@ -1,14 +1,14 @@
 -- The bytes that an event reads for its guest come behind those read before, and are as many as its entry reads.
-use Rattle.std.specs.Prelude.{◌≡◌, ◌≤◌, ◌<◌, ℕ, zero, suc, ◌+◌, ◌&&◌, Bool, true, false, List, [], ◌∷◌, ◌++◌, length, take, drop, Option, Some, None, is_none, is_some, if◌then◌else◌}
-use Rattle.std.proofs.Common.{arith, refl, ap, sym, subst, ◌∙◌, inl, inr, append-nil, add-one}
+use Rattle.std.specs.Prelude.{◌≡◌, ◌≤◌, ℕ, suc, ◌+◌, ◌&&◌, Bool, true, false, List, [], ◌∷◌, ◌++◌, length, take, drop, Option, Some, None, is_none, is_some, if◌then◌else◌}
+use Rattle.std.proofs.Common.{arith, refl, ap, sym, subst, inl, inr, append-nil}
 use Rattle.std.proofs.lemmas.Bool.{cases_lt}
 use Rattle.std.proofs.lemmas.List.{length-append, length-take, get_or_past}
 use Rattle.xv_base.specs.declared.event.Event.TheVariants.{Guest, Release}
 use Rattle.xv_model.specs.Job.{Job, UnitOp, IsGoodJob, trace, operation, no_operation}
 use Rattle.xv_model.specs.Guest.{Ended, ended, entry, no_entry, is_done, operation_at, content, part, read_bytes, reads}
-use Rattle.xv_model.specs.View.{View, disk, front}
+use Rattle.xv_model.specs.View.{View}
 use Rattle.xv_model.specs.Wait.{Event, Why, wait, next_aim, is_join}
-use Rattle.xv_model.specs.Effect.{Turn, Outcome, effect, fault_effect}
+use Rattle.xv_model.specs.Effect.{Turn, effect, fault_effect}
 use Rattle.xv_model.specs.Step.{breaks, step, view_by, is_flagged}
 use Rattle.xv_model.proofs.Histories.{push, reads-push_before}
 use Rattle.xv_job.specs.Written.{job_of}

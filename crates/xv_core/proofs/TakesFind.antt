@@ -1,6 +1,6 @@
 -- Where all wires tell their plans, a call fails only where its event had something to do: a take meets no fault where
 -- nothing is in transit.
-use Rattle.std.specs.Prelude.{◌≡◌, ◌<◌, ℕ, ◌==◌, ◌&&◌, nat_lt, not, Bool, true, false, List, [], ◌∷◌, length, map, get_or, Option, Some, None, IfSome, is_some}
+use Rattle.std.specs.Prelude.{◌≡◌, ◌<◌, ℕ, ◌&&◌, nat_lt, not, Bool, true, false, List, [], ◌∷◌, length, map, get_or, Option, Some, None, IfSome, is_some}
 use Rattle.std.specs.List.{list_all}
 use Rattle.std.proofs.Common.{arith, refl, ap, sym, subst, ◌∙◌, inl, inr}
 use Rattle.std.proofs.lemmas.Bool.{cases_Bool, false≢true, and_parts, ltb-true}
@@ -18,19 +18,16 @@ use Rattle.xv_streams.specs.Streamed.{LaneSeen, no_lane, lane}
 use Rattle.xv_streams.specs.Carried.{IsCarried}
 use Rattle.xv_streams.specs.Fronts.{TakesFront, heads_of}
 use Rattle.xv_streams.specs.Returned.{Returned, AreCarried, TakesFirst}
-use Rattle.xv_model.specs.Job.{Job}
 use Rattle.xv_model.specs.View.{View, UnitHead, is_live, is_empty, stream}
-use Rattle.xv_model.specs.Wait.{Event, Why, wait, unless, fits}
+use Rattle.xv_model.specs.Wait.{Event, wait, unless}
 use Rattle.xv_model.specs.Effect.{Turn}
 use Rattle.xv_model.specs.Step.{is_flagged}
 use Rattle.xv_job.specs.Written.{job_of}
 use Rattle.xv_core.specs.Seen.{OnWire, no_wire, wire}
-use Rattle.xv_core.specs.State.{State, view, seen_of, on_wire, IsRunning}
+use Rattle.xv_core.specs.State.{State, view, seen_of, on_wire}
 use Rattle.xv_core.specs.Happening.{Happened}
-use Rattle.xv_core.specs.Plans.{ArePieces, AllCarried}
 use Rattle.xv_core.specs.Kept.{IsState}
 use Rattle.xv_core.specs.Stepped.{tells_plans, FindsSome}
-use Rattle.xv_core.proofs.Stays.{all-carried}
 use Rattle.xv_core.proofs.CountingRises.{went}
 use Rattle.xv_core.proofs.CountingWires.{wire-is}
 use Rattle.xv_core.proofs.PlansTakes.{none-there}

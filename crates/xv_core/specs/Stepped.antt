@@ -1,9 +1,7 @@
 -- What one step of a migration does, as contracts see it.
-use Rattle.std.specs.Prelude.{◌≡◌, ◌≤◌, ℕ, ◌+◌, ◌-◌, ◌^◌, ◌<◌, ◌&&◌, min, Bool, true, false, List, ◌++◌, map, length, None, is_some, IfSome, if◌then◌else◌}
+use Rattle.std.specs.Prelude.{◌≡◌, ◌≤◌, ℕ, ◌+◌, ◌-◌, ◌^◌, ◌&&◌, min, Bool, true, false, List, ◌++◌, map, length, None, is_some}
 use Rattle.std.specs.List.{list_all}
-use Rattle.xv_model.specs.Job.{Job, unit_count}
 use Rattle.xv_model.specs.Guest.{read_bytes}
-use Rattle.xv_model.specs.View.{View, number, is_switched}
 use Rattle.xv_model.specs.Wait.{Event, wait}
 use Rattle.xv_model.specs.Effect.{Turn}
 use Rattle.xv_model.specs.Step.{turn, step, entry_of, is_flagged, is_wait}
