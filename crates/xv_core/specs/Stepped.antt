@@ -64,8 +64,8 @@ abbrev pub FindsSome : Seen → Event → Turn → Type 0
 FindsSome old event answer =
     tells_plans old ≡ true → is_flagged answer ≡ true → wait (job_of old.job) (view_of old) event false ≡ None
 
--- a device that tells what it holds goes on to tell it, and one that does not tells nothing; there are as many units told and
--- as many wires
+-- a device that tells what it holds goes on to tell it, of as many units, and one that does not tells nothing; there are as
+-- many wires
 pub record TellsOn (old new : Seen) : Type 0 where
   pub source : tells new.source ≡ tells old.source
   pub dest : tells new.dest ≡ tells old.dest
