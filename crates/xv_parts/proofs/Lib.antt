@@ -1,3 +1,6 @@
 pub mod Rooms
 pub mod Begun
 pub mod Stepping
+pub mod Staying
+pub mod Listed
+pub mod Planned
