@@ -4,3 +4,5 @@ pub mod Stepping
 pub mod Staying
 pub mod Listed
 pub mod Planned
+pub mod Reading
+pub mod Holding
