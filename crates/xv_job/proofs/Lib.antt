@@ -17,3 +17,7 @@ pub mod Few
 pub mod Progress
 pub mod BuiltLines
 pub mod Printed
+pub mod MadeOps
+pub mod MadeCount
+pub mod MadeGood
+pub mod MadeParts

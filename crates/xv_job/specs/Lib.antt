@@ -6,3 +6,4 @@ pub mod Built
 pub mod BuiltEvents
 pub mod Held
 pub mod Texts
+pub mod Made

@@ -14,6 +14,7 @@ mod laws;
 mod limits;
 mod line;
 mod machine;
+mod made;
 mod planned;
 mod print;
 mod reading;
@@ -24,9 +25,12 @@ pub use job::Job;
 pub use laws::{
     built_jobs_are_read_back, jobs_are_read_back, texts_begin_with_one_job, texts_say_jobs,
 };
+pub use made::make_job;
 pub use print::print_job;
 pub use reading::{Place, read_job};
 pub use word::{Call, Word};
 
+#[cfg(test)]
+mod made_tests;
 #[cfg(test)]
 mod tests;
