@@ -15,7 +15,6 @@ pub mod Texts
 pub mod Counted
 pub mod Few
 pub mod Progress
-pub mod BuiltLines
 pub mod Printed
 pub mod MadeOps
 pub mod MadeCount

@@ -45,14 +45,14 @@ init_rises n =
 init_units : (n : ℕ) → AllByRecursion (λ i. i.unit.0 < units made_shape) (made_init n)
 init_units n =
     all_both (λ i. i.unit.0 < units made_shape) (contents n 0 64 16) (contents n 1024 256 16)
-        (all_ranged (λ i. i.unit.0 < units made_shape) (content n 0 64) 0 16 (λ i h. omega arith))
-        (all_ranged (λ i. i.unit.0 < units made_shape) (content n 1024 256) 0 16 (λ i h. omega arith))
+    (all_ranged (λ i. i.unit.0 < units made_shape) (content n 0 64) 0 16 (λ i h. omega arith))
+    (all_ranged (λ i. i.unit.0 < units made_shape) (content n 1024 256) 0 16 (λ i h. omega arith))
 
 init_patterns : (n : ℕ) → AllByRecursion (λ i. IsPattern i.pattern) (made_init n)
 init_patterns n =
     all_both (λ i. IsPattern i.pattern) (contents n 0 64 16) (contents n 1024 256 16)
-        (all_ranged (λ i. IsPattern i.pattern) (content n 0 64) 0 16 (λ i h. byte_pattern (n + i)))
-        (all_ranged (λ i. IsPattern i.pattern) (content n 1024 256) 0 16 (λ i h. byte_pattern (n + i)))
+    (all_ranged (λ i. IsPattern i.pattern) (content n 0 64) 0 16 (λ i h. byte_pattern (n + i)))
+    (all_ranged (λ i. IsPattern i.pattern) (content n 1024 256) 0 16 (λ i h. byte_pattern (n + i)))
 
 guest_good : (n g count : ℕ) → g < 4 → AllByRecursion (IsGoodOp made_shape) (first_ops n g count)
 guest_good n g count h = all_ranged (IsGoodOp made_shape) (made_op n g) 0 count (λ i lt. op_good n g i h)

@@ -2,8 +2,6 @@ pub mod Written
 pub mod Words
 pub mod Draft
 pub mod JobText
-pub mod Built
-pub mod BuiltEvents
 pub mod Held
 pub mod Texts
 pub mod Made
