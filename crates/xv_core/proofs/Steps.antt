@@ -1,6 +1,7 @@
 -- An event that happened, and a wait, are steps as contracts see them.
 use Rattle.std.specs.Prelude.{◌≡◌, ◌≤◌, ℕ, ◌+◌, Bool, true, false, List, [], ◌∷◌, ◌++◌, length, map, Option, Some, None, if◌then◌else◌}
 use Rattle.std.proofs.Common.{refl, sym, ap, subst, ◌∙◌, arith, append-nil}
+use Rattle.std.proofs.lemmas.List.{length-map}
 use Rattle.xv_base.specs.declared.answer.Turn.TheVariants.{Wait as Waits}
 use Rattle.xv_model.specs.Guest.{read_bytes}
 use Rattle.xv_model.specs.View.{View}
@@ -26,6 +27,7 @@ use Rattle.xv_core.proofs.PlansRise.{takes-rise}
 use Rattle.xv_core.proofs.Causes.{flagged-calls, rose}
 use Rattle.xv_core.proofs.DestKept.{unwritten-kept}
 use Rattle.xv_core.proofs.Keeps.{source-tells, dest-tells}
+use Rattle.xv_core.proofs.Numbered.{source-holds, dest-holds}
 use Rattle.xv_core.proofs.ReadsBehind.{past-reads-none, reads-behind}
 use Rattle.xv_core.proofs.TakesFind.{finds-some}
 use Rattle.xv_core.proofs.Waits.{still-map, told-same, faults-rise}
@@ -50,6 +52,9 @@ seen-steps s t e a k h =
       tells = record {
         source = source-tells (outside job (view s) e) (is_flagged a) (on_source s.source) (on_source t.source) h.calls.source;
         dest = dest-tells (outside job (view s) e) (is_flagged a) (on_dest s.dest) (on_dest t.dest) h.calls.dest;
+        source_units = source-holds (outside job (view s) e) (is_flagged a) (on_source s.source) (on_source t.source) h.calls.source;
+        dest_units = dest-holds (outside job (view s) e) (is_flagged a) (on_dest s.dest) (on_dest t.dest) h.calls.dest;
+        wires = length-map t.streams.lanes on_wire ∙ h.parts.each_stream ∙ sym k.running.parts.each_stream ∙ sym (length-map s.streams.lanes on_wire);
       };
     }
   where
@@ -119,6 +124,12 @@ module _ (s : State) (x : Streamed) (y : Returned) (same : x ≡ record s.stream
     back = back-still-told;
   }
 
+  as-many : length (map on_wire x.lanes) ≡ length (map on_wire s.streams.lanes)
+  as-many =
+      sym (length-map (map on_wire x.lanes) told_by)
+      ∙ ap (λ (ws : List OnWire). length ws) as-before.wires
+      ∙ length-map (map on_wire s.streams.lanes) told_by
+
   none-read : (e : Event) (why : Why) → wait (job_of s.job) (view s) e false ≡ Some why → ReadsMore (seen_of s) e (Waits why) (seen_of (record s { streams = x; back = y }))
   none-read e why is =
       let job = job_of s.job in
@@ -144,7 +155,7 @@ module _ (s : State) (x : Streamed) (y : Returned) (same : x ≡ record s.stream
     unwritten = record { units = λ unit none. refl };
     reads = none-read e why is;
     finds = λ plans flagged. absurd (cc);
-    tells = record { source = refl; dest = refl };
+    tells = record { source = refl; dest = refl; source_units = refl; dest_units = refl; wires = as-many };
   }
 
 pub wait-seen : (s t : State) (e : Event) (why : Why) → wait (job_of s.job) (view s) e false ≡ Some why → Waited s t → IsStep (seen_of s) e (Waits why) (seen_of t)
