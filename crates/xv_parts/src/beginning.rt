@@ -40,12 +40,7 @@ pub fn begin(alloc: Global, job: Job) -> Result<Machine, NoMemory>
 }
 
 /// A device over the job's units, which begin so.
-fn device(
-    alloc: Global,
-    job: &Job,
-    init: &[Init],
-    plan: DevicePlan,
-) -> Result<MemDevice, NoMemory>
+fn device(alloc: Global, job: &Job, init: &[Init], plan: DevicePlan) -> Result<MemDevice, NoMemory>
     requires { (i : ℕ) → i < length init.now → (get_or init.now i no_init).unit.0 < units job.now.shape }
     ensures fresh { IfOk result (λ device. device ≡ fresh_device job.now.shape init.now plan) }
     ensures fits { IfOk result (λ device. IsDeviceFor (job_of job.now) (told_device device)) }
