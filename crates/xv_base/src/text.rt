@@ -26,8 +26,6 @@ pub enum LineWhy {
     CrossesPage,
     /// More unit operations than a job may have.
     TooMany,
-    /// A form that is not built yet.
-    Unbuilt,
 }
 
 /// The first line that is refused, from 1 over the whole input, or 0 for the input itself.

@@ -17,19 +17,18 @@ use Rattle.xv_trace.specs.declared.op.Op.{Op}
 use Rattle.xv_trace.specs.declared.op.Verb.{Verb}
 use Rattle.xv_trace.specs.declared.op.Verb.TheVariants.{Store as StoreVerb, Load as LoadVerb, Write as WriteVerb, Fetch as FetchVerb}
 use Rattle.xv_trace.specs.Operations.{all_unit_operations, no_op}
-use Rattle.xv_trace.specs.OpText.{head, tail, verb_of, IsGoodOp}
+use Rattle.xv_trace.specs.OpText.{verb_of, IsGoodOp}
 use Rattle.xv_job.specs.declared.word.Word.{Word}
 use Rattle.xv_job.specs.declared.word.Word.TheVariants.{Job as JobWord, Pages, Disk, Streams, Credit, Outbox, Region, Rounds, Dirty, Group, Cancel, Fault as FaultWord, Init as InitWord, Guest, Operation, End}
 use Rattle.xv_job.specs.Words.{own_word, or_operation, needed, is_group, may_come, word_of}
-use Rattle.xv_job.specs.Draft.{Draft, draft_by, next_draft, line_fault, word_fault, is_in_traces, is_complete, exceeds, operations_so_far}
+use Rattle.xv_job.specs.Draft.{Draft, draft_by, next_draft, line_fault, word_fault, is_in_traces, is_complete, exceeds, operations_so_far, job_reader}
 use Rattle.xv_job.specs.JobText.{machine_lines, limit_lines, group_lines, cancel_lines, fault_fields, init_fields, guest_lines, job_lines}
 use Rattle.xv_job.specs.Written.{Written, IsGoodWritten, job_of, ops}
 use Rattle.xv_model.specs.Job.{IsGoodJob, operation_count, trace, no_init, no_operation, IsLegal, operation}
 use Rattle.xv_text.specs.declared.row.Kind.TheVariants.{Number}
 use Rattle.xv_text.specs.Fields.{values, number_at}
 use Rattle.xv_job.proofs.Args.{nothing, one_number}
-use Rattle.xv_job.specs.Built.{reader_of, fault_by, unbuilt_fault}
-use Rattle.xv_job.proofs.Parts.{own_spelled, verb_spelling, either, IsFine, fine, comes, spelling, spelled, neither, not_there, inside}
+use Rattle.xv_job.proofs.Parts.{own_spelled, verb_spelling, either, IsFine, fine, comes, spelling, spelled, not_there, inside}
 use Rattle.xv_job.proofs.Shapes.{not_above}
 use Rattle.xv_job.proofs.Head.{IsFormat, IsMachine, Between, Head, at_start, at_job, at_pages, at_disk, at_streams, at_credit, at_outbox, at_region, at_rounds, at_dirty, config_of, head_job, draft_at, machine, to_dirty, step_start, step_job, step_pages, step_disk, step_streams, step_credit, step_outbox, step_region, step_rounds}
 use Rattle.xv_job.proofs.Lists.{all_at, rises_at}
@@ -333,29 +332,25 @@ whole_of d ls (in_head h) e = let k : true ≡ false = sym e ∙ head_goes_on d 
 whole_of d ls (in_body b) e = absurd (body_goes_on d.last b.high e)
 whole_of d ls (at_end w) e = w
 
-fault_less : (built : Bool) (d : Draft) (l : List (List ℕ)) → fault_by built d l ≡ None → line_fault d l ≡ None
-fault_less true d l h = (neither (line_fault d l) (unbuilt_fault d.job (word_of (is_in_traces d) (head l)) (tail l)) h).0
-fault_less false d l h = h
-
 pub later_none : (n : ℕ) (why : Option LineWhy) (later : Option LineFault) → at_line_or n why later ≡ None → (why ≡ None) × (later ≡ None)
 later_none n None later h = (refl, h)
 later_none n (Some why) later h = absurd (cc)
 
-pub sound : (built : Bool) (lines : List (List (List ℕ))) (d : Draft) (n : ℕ) (rest : Bool) (before : List (List (List ℕ))) → Reached d before → first_fault (reader_of built) false d n lines rest ≡ None → IsWhole (last_state (reader_of built) d lines) (before ++ take (line_count (reader_of built) d lines) lines)
-sound built [] d n rest before r h = elim (either (is_complete d)) [
+pub sound : (lines : List (List (List ℕ))) (d : Draft) (n : ℕ) (rest : Bool) (before : List (List (List ℕ))) → Reached d before → first_fault job_reader false d n lines rest ≡ None → IsWhole (last_state job_reader d lines) (before ++ take (line_count job_reader d lines) lines)
+sound [] d n rest before r h = elim (either (is_complete d)) [
   | inl done ↦
       let P : List (List (List ℕ)) → Type 0 = λ ls. IsWhole d ls in
       subst P (sym (append-nil before)) (whole_of d before r done)
   | inr more ↦ let k : Some (at_line n Unended) ≡ None = (rw more at h) in absurd (cc)
 ]
-sound built (l ∷ ls) d n rest before r h = elim (either (is_complete d)) [
+sound (l ∷ ls) d n rest before r h = elim (either (is_complete d)) [
   | inl done ↦
       let P : List (List (List ℕ)) → Type 0 = λ xs. IsWhole d xs in
       rw done (subst P (sym (append-nil before)) (whole_of d before r done))
   | inr more ↦
-      let k : at_line_or n (fault_by built d l) (first_fault (reader_of built) false (next_draft d l) (n + 1) ls rest) ≡ None = (rw more at h) in
-      let a = later_none n (fault_by built d l) (first_fault (reader_of built) false (next_draft d l) (n + 1) ls rest) k in
-      let s = sound built ls (next_draft d l) (n + 1) rest (before ++ l ∷ []) (step_line d before l r more (fault_less built d l a.0)) a.1 in
-      let P : List (List (List ℕ)) → Type 0 = λ xs. IsWhole (last_state (reader_of built) (next_draft d l) ls) xs in
-      rw (more, add-one) (subst P (append_assoc before (l ∷ []) (take (line_count (reader_of built) (next_draft d l) ls) ls)) s)
+      let k : at_line_or n (line_fault d l) (first_fault job_reader false (next_draft d l) (n + 1) ls rest) ≡ None = (rw more at h) in
+      let a = later_none n (line_fault d l) (first_fault job_reader false (next_draft d l) (n + 1) ls rest) k in
+      let s = sound ls (next_draft d l) (n + 1) rest (before ++ l ∷ []) (step_line d before l r more a.0) a.1 in
+      let P : List (List (List ℕ)) → Type 0 = λ xs. IsWhole (last_state job_reader (next_draft d l) ls) xs in
+      rw (more, add-one) (subst P (append_assoc before (l ∷ []) (take (line_count job_reader (next_draft d l) ls) ls)) s)
 ]

@@ -15,5 +15,4 @@ pub mod Texts
 pub mod Counted
 pub mod Few
 pub mod Progress
-pub mod BuiltLines
 pub mod Printed

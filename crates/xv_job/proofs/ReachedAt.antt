@@ -1,22 +1,19 @@
 -- What is known of a draft where a word may come.
-use Rattle.std.proofs.Common.{◌≡◌, ℕ, ◌^◌, ◌≤◌, ◌&&◌, Bool, true, false, List, [], ◌∷◌, ◌++◌, length, Option, Some, None, refl, sym, ap, ◌∙◌, subst, arith}
+use Rattle.std.proofs.Common.{◌≡◌, ℕ, ◌^◌, ◌≤◌, true, false, List, [], ◌∷◌, ◌++◌, length, Option, Some, None, refl, sym, ap, ◌∙◌, subst, arith}
 use Rattle.std.proofs.lemmas.List.{append-nil, append_assoc, length-map}
 use Rattle.xv_base.specs.declared.text.LineWhy.{LineWhy}
-use Rattle.xv_base.specs.declared.text.LineWhy.TheVariants.{BadWord, Order, Unbuilt}
 use Rattle.xv_base.specs.Layout.{IsGood}
-use Rattle.xv_text.specs.Fields.{or_else, fault_if}
 use Rattle.xv_trace.specs.declared.op.Verb.{Verb}
-use Rattle.xv_trace.specs.OpText.{head, tail, Program}
+use Rattle.xv_trace.specs.OpText.{Program}
 use Rattle.xv_job.specs.declared.word.Word.{Word}
 use Rattle.xv_job.specs.declared.word.Word.TheVariants.{Pages, Disk, Operation}
 use Rattle.xv_job.specs.Written.{Written}
 use Rattle.xv_job.specs.Words.{may_come, rank, word_of, is_operation}
-use Rattle.xv_job.specs.Draft.{Draft, first_draft, next_draft, line_fault, word_fault, is_in_traces, is_complete, args_fault, numbers_fault, operations_so_far, said}
-use Rattle.xv_job.specs.Built.{fault_by, is_unbuilt, unbuilt_fault}
+use Rattle.xv_job.specs.Draft.{Draft, first_draft, next_draft, line_fault, is_in_traces, is_complete, operations_so_far, said}
 use Rattle.xv_job.specs.Held.{Leads, IsReached, Stops, behind_fault}
 use Rattle.xv_job.specs.Written.{ops_held}
 use Rattle.xv_job.specs.declared.held.Stop.{Stop}
-use Rattle.xv_job.proofs.Parts.{comes, neither}
+use Rattle.xv_job.proofs.Parts.{comes}
 use Rattle.xv_job.proofs.Head.{at_start, at_job, at_pages, at_disk, at_streams, at_credit, at_outbox, at_region, at_rounds, at_dirty}
 use Rattle.xv_job.proofs.Backward.{Reached, in_head, in_body, at_end, step_line, operation_at}
 
@@ -123,37 +120,8 @@ pub count_held : (ts : List Program) → length (ops_held ts) ≡ length ts
 count_held ts = length-map ts (λ (t : Program). t.ops)
 
 -- the tests of a line in their order
-and_true : (b : Bool) → (true && b) ≡ b
-and_true b = refl
-
-or_none : (a : Option LineWhy) → or_else a None ≡ a
-or_none None = refl
-or_none (Some why) = refl
-
-or_assoc : (a b c : Option LineWhy) → or_else (or_else a b) c ≡ or_else a (or_else b c)
-or_assoc None b c = refl
-or_assoc (Some why) b c = refl
-
-behind_is : (built : Bool) (d : Draft) (w : Word) (args : List (List ℕ)) (l : List (List ℕ)) → l ≡ head l ∷ args → tail l ≡ args → word_of (is_in_traces d) (head l) ≡ Some w → may_come d.job.format d.last w ≡ true → fault_by built d l ≡ behind_fault built d.job w args
-behind_is true d w args l e t o c =
-    let P : List (List ℕ) → Type 0 = λ a. or_else (word_fault d (Some w) a) (unbuilt_fault d.job (Some w) a) ≡ behind_fault true d.job w args in
-    rw o (subst P (sym t) (rw c (or_assoc (args_fault w args) (numbers_fault d.job w args) (fault_if (is_unbuilt d.job w args) Unbuilt))))
-behind_is false d w args l e t o c =
-    let P : List (List ℕ) → Type 0 = λ a. word_fault d (Some w) a ≡ behind_fault false d.job w args in
-    rw o (subst P (sym t) (rw (c, or_none (numbers_fault d.job w args)) refl))
-
-pub fault_behind : (built : Bool) (d : Draft) (l : List (List ℕ)) (first : List ℕ) (args : List (List ℕ)) (w : Word) → l ≡ first ∷ args → word_of (is_in_traces d) first ≡ Some w → may_come d.job.format d.last w ≡ true → fault_by built d l ≡ behind_fault built d.job w args
-fault_behind built d l first args w e o c =
-    let P : List (List ℕ) → Type 0 = λ x. fault_by built d x ≡ behind_fault built d.job w args in
-    subst P (sym e) (behind_is built d w args (first ∷ args) refl refl o c)
-
-pub no_such_word : (built : Bool) (d : Draft) (l : List (List ℕ)) (first : List ℕ) (args : List (List ℕ)) → l ≡ first ∷ args → word_of (is_in_traces d) first ≡ None → fault_by built d l ≡ Some BadWord
-no_such_word true d l first args e o = rw (e, o) refl
-no_such_word false d l first args e o = rw (e, o) refl
-
-pub out_of_order : (built : Bool) (d : Draft) (l : List (List ℕ)) (first : List ℕ) (args : List (List ℕ)) (w : Word) → l ≡ first ∷ args → word_of (is_in_traces d) first ≡ Some w → may_come d.job.format d.last w ≡ false → fault_by built d l ≡ Some Order
-out_of_order true d l first args w e o c = rw (e, o, c) refl
-out_of_order false d l first args w e o c = rw (e, o, c) refl
+pub fault_behind : (d : Draft) (l : List (List ℕ)) (first : List ℕ) (args : List (List ℕ)) (w : Word) → l ≡ first ∷ args → word_of (is_in_traces d) first ≡ Some w → may_come d.job.format d.last w ≡ true → line_fault d l ≡ behind_fault d.job w args
+fault_behind d l first args w e o c = rw (e, o, c) refl
 
 pub next_is : (d : Draft) (l : List (List ℕ)) (first : List ℕ) (args : List (List ℕ)) (w : Word) → l ≡ first ∷ args → word_of (is_in_traces d) first ≡ Some w → record { last = rank w; job = said d.job w args } ≡ next_draft d l
 next_is d l first args w e o = sym (rw (e, o) refl)
@@ -198,10 +166,6 @@ is_op_word w v e = rw e refl
 -- an error of what was read behind the word is that of the line
 pub stops_as : (a b : Option LineWhy) (stop : Stop) → a ≡ b → Stops b stop → Stops a stop
 stops_as a b stop e h = let P : Option LineWhy → Type 0 = λ x. Stops x stop in subst P (sym e) h
-
-pub fault_less : (built : Bool) (d : Draft) (l : List (List ℕ)) → fault_by built d l ≡ None → line_fault d l ≡ None
-fault_less true d l h = (neither (line_fault d l) (unbuilt_fault d.job (word_of (is_in_traces d) (head l)) (tail l)) h).0
-fault_less false d l h = h
 
 -- the draft after a line
 draft_is : (new : Draft) (n : ℕ) (w : Written) → new.last ≡ n → new.job ≡ w → new ≡ record { last = n; job = w }

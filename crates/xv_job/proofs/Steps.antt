@@ -4,7 +4,7 @@ use Rattle.std.specs.List.{list_any}
 use Rattle.std.proofs.lemmas.Bool.{and_parts, and_from, cases_lt}
 use Rattle.std.proofs.lemmas.Bool.Decides.{nat_tests}
 use Rattle.std.proofs.lemmas.Fmt.{decimal_digit}
-use Rattle.xv_base.specs.declared.text.LineWhy.TheVariants.{Limit, Order, OutOfRange, TooMany, Unbuilt}
+use Rattle.xv_base.specs.declared.text.LineWhy.TheVariants.{Limit, Order, OutOfRange, TooMany}
 use Rattle.xv_base.specs.declared.unit.DiskShape.{DiskShape}
 use Rattle.xv_base.specs.declared.limits.Config.{Config}
 use Rattle.xv_base.specs.declared.limits.Fault.{Fault}
@@ -25,7 +25,6 @@ use Rattle.xv_job.specs.Words.{needed, may_come, call_of, word_of}
 use Rattle.xv_job.specs.Draft.{Draft, first_draft, draft_by, next_draft, line_fault, word_fault, is_in_traces, is_complete, outside, planned_fault, faults_said, has_bad_number, plan_fault, operation_fault, operations_so_far, after_last, exceeds, with_op, region_fault}
 use Rattle.xv_job.specs.JobText.{fault_fields, init_fields, disk_fields}
 use Rattle.xv_job.specs.Written.{Written, fault_number}
-use Rattle.xv_job.specs.Built.{is_unbuilt, unbuilt_fault, fault_by, is_on_disk}
 use Rattle.xv_model.specs.Job.{is_good_fault}
 use Rattle.xv_job.proofs.Args.{says_one, says_two, says_bytes, op_says, verb_in}
 use Rattle.xv_job.proofs.Parts.{IsFine, fine_back, both_none, there_not, within}
@@ -33,37 +32,31 @@ use Rattle.xv_job.proofs.Shapes.{pages_pass, disk_passes, above_not}
 use Rattle.xv_job.proofs.Head.{IsFormat, Between, config_of, head_job, draft_at}
 use Rattle.xv_job.proofs.Lists.{with_op_is}
 
--- a line that is read from one draft to the next, with or without the test for what is not built
-pub record IsStep (built : Bool) (d : Draft) (l : List (List ℕ)) (e : Draft) : Type 0 where
+-- a line that is read from one draft to the next
+pub record IsStep (d : Draft) (l : List (List ℕ)) (e : Draft) : Type 0 where
   pub more : is_complete d ≡ false
-  pub no_fault : fault_by built d l ≡ None
+  pub no_fault : line_fault d l ≡ None
   pub next : next_draft d l ≡ e
 
 -- and lines one after another
-abbrev pub Reads : Bool → Draft → List (List (List ℕ)) → Draft → Type 0
-Reads built d [] e = d ≡ e
-Reads built d (l ∷ ls) e = (is_complete d ≡ false) × (fault_by built d l ≡ None) × Reads built (next_draft d l) ls e
+abbrev pub Reads : Draft → List (List (List ℕ)) → Draft → Type 0
+Reads d [] e = d ≡ e
+Reads d (l ∷ ls) e = (is_complete d ≡ false) × (line_fault d l ≡ None) × Reads (next_draft d l) ls e
 
-pub reads_then : (built : Bool) (d : Draft) (ls more : List (List (List ℕ))) (m e : Draft) → Reads built d ls m → Reads built m more e → Reads built d (ls ++ more) e
-reads_then built d [] more m e h k = let P : Draft → Type 0 = λ x. Reads built x more e in subst P (sym h) k
-reads_then built d (l ∷ ls) more m e h k = (h.0, h.1, reads_then built (next_draft d l) ls more m e h.2 k)
+pub reads_then : (d : Draft) (ls more : List (List (List ℕ))) (m e : Draft) → Reads d ls m → Reads m more e → Reads d (ls ++ more) e
+reads_then d [] more m e h k = let P : Draft → Type 0 = λ x. Reads x more e in subst P (sym h) k
+reads_then d (l ∷ ls) more m e h k = (h.0, h.1, reads_then (next_draft d l) ls more m e h.2 k)
 
-pub reads_one : (built : Bool) (d : Draft) (l : List (List ℕ)) (ls : List (List (List ℕ))) (m e : Draft) → IsStep built d l m → Reads built m ls e → Reads built d (l ∷ ls) e
-reads_one built d l ls m e s k = let P : Draft → Type 0 = λ x. Reads built x ls e in (s.more, s.no_fault, subst P (sym s.next) k)
+pub reads_one : (d : Draft) (l : List (List ℕ)) (ls : List (List (List ℕ))) (m e : Draft) → IsStep d l m → Reads m ls e → Reads d (l ∷ ls) e
+reads_one d l ls m e s k = let P : Draft → Type 0 = λ x. Reads x ls e in (s.more, s.no_fault, subst P (sym s.next) k)
 
 -- a line passes all tests
-no_fault_by : (built : Bool) (d : Draft) (l : List (List ℕ)) (w : Word) → word_of (is_in_traces d) (head l) ≡ Some w → line_fault d l ≡ None → (built ≡ true → is_unbuilt d.job w (tail l) ≡ false) → fault_by built d l ≡ None
-no_fault_by true d l w e h b =
-    let P : Option Word → Type 0 = λ o. unbuilt_fault d.job o (tail l) ≡ None in
-    both_none (line_fault d l) (unbuilt_fault d.job (word_of (is_in_traces d) (head l)) (tail l)) h (subst P (sym e) (there_not (is_unbuilt d.job w (tail l)) Unbuilt (b refl)))
-no_fault_by false d l w e h b = h
-
-pub step : (built : Bool) (d : Draft) (word : List ℕ) (args : List (List ℕ)) (w : Word) (e : Draft) → is_complete d ≡ false → word_of (is_in_traces d) word ≡ Some w → IsFine d w args → (built ≡ true → is_unbuilt d.job w args ≡ false) → draft_by d (Some w) args ≡ e → IsStep built d (word ∷ args) e
-step built d word args w e more is h b next =
+pub step : (d : Draft) (word : List ℕ) (args : List (List ℕ)) (w : Word) (e : Draft) → is_complete d ≡ false → word_of (is_in_traces d) word ≡ Some w → IsFine d w args → draft_by d (Some w) args ≡ e → IsStep d (word ∷ args) e
+step d word args w e more is h next =
     let P : Option Word → Type 0 = λ o. word_fault d o args ≡ None in
     record {
       more = more;
-      no_fault = no_fault_by built d (word ∷ args) w is (subst P (sym is) (fine_back d w args h)) b;
+      no_fault = subst P (sym is) (fine_back d w args h);
       next = ap (λ (o : Option Word). draft_by d o args) is ∙ next;
     }
 
@@ -74,38 +67,37 @@ one_is = sym (decimal_digit 1 (lit< tt))
 two_is : codes "2" ≡ decimal 2
 two_is = sym (decimal_digit 2 (lit< tt))
 
-job_one : (built : Bool) → IsStep built first_draft (codes "job" ∷ codes "1" ∷ []) (draft_at 1 1 (shape_of 0 0 []) (config_of 0 0 0 0 0 0))
-job_one built = step built first_draft (codes "job") (codes "1" ∷ []) JobWord _ refl refl (record { comes = refl; said_well = refl; numbers = refl }) (λ e. refl) refl
+job_one : IsStep first_draft (codes "job" ∷ codes "1" ∷ []) (draft_at 1 1 (shape_of 0 0 []) (config_of 0 0 0 0 0 0))
+job_one = step first_draft (codes "job") (codes "1" ∷ []) JobWord _ refl refl (record { comes = refl; said_well = refl; numbers = refl }) refl
 
-job_two : (built : Bool) → (built ≡ true → ⊥) → IsStep built first_draft (codes "job" ∷ codes "2" ∷ []) (draft_at 1 2 (shape_of 0 0 []) (config_of 0 0 0 0 0 0))
-job_two built no_two = step built first_draft (codes "job") (codes "2" ∷ []) JobWord _ refl refl (record { comes = refl; said_well = refl; numbers = refl }) (λ e. absurd (no_two e)) refl
+job_two : IsStep first_draft (codes "job" ∷ codes "2" ∷ []) (draft_at 1 2 (shape_of 0 0 []) (config_of 0 0 0 0 0 0))
+job_two = step first_draft (codes "job") (codes "2" ∷ []) JobWord _ refl refl (record { comes = refl; said_well = refl; numbers = refl }) refl
 
-pub step_job : (built : Bool) (f : ℕ) → IsFormat f → (built ≡ true → f ≡ 1) → IsStep built first_draft (codes "job" ∷ decimal f ∷ []) (draft_at 1 f (shape_of 0 0 []) (config_of 0 0 0 0 0 0))
-step_job built f (inl e) b =
-    let P : ℕ → Type 0 = λ n. IsStep built first_draft (codes "job" ∷ decimal n ∷ []) (draft_at 1 n (shape_of 0 0 []) (config_of 0 0 0 0 0 0)) in
-    let Q : List ℕ → Type 0 = λ t. IsStep built first_draft (codes "job" ∷ t ∷ []) (draft_at 1 1 (shape_of 0 0 []) (config_of 0 0 0 0 0 0)) in
-    subst P (sym e) (subst Q one_is (job_one built))
-step_job built f (inr e) b =
-    let P : ℕ → Type 0 = λ n. IsStep built first_draft (codes "job" ∷ decimal n ∷ []) (draft_at 1 n (shape_of 0 0 []) (config_of 0 0 0 0 0 0)) in
-    let Q : List ℕ → Type 0 = λ t. IsStep built first_draft (codes "job" ∷ t ∷ []) (draft_at 1 2 (shape_of 0 0 []) (config_of 0 0 0 0 0 0)) in
-    subst P (sym e) (subst Q two_is (job_two built (λ h. omega (arith, b h, e))))
+pub step_job : (f : ℕ) → IsFormat f → IsStep first_draft (codes "job" ∷ decimal f ∷ []) (draft_at 1 f (shape_of 0 0 []) (config_of 0 0 0 0 0 0))
+step_job f (inl e) =
+    let P : ℕ → Type 0 = λ n. IsStep first_draft (codes "job" ∷ decimal n ∷ []) (draft_at 1 n (shape_of 0 0 []) (config_of 0 0 0 0 0 0)) in
+    let Q : List ℕ → Type 0 = λ t. IsStep first_draft (codes "job" ∷ t ∷ []) (draft_at 1 1 (shape_of 0 0 []) (config_of 0 0 0 0 0 0)) in
+    subst P (sym e) (subst Q one_is job_one)
+step_job f (inr e) =
+    let P : ℕ → Type 0 = λ n. IsStep first_draft (codes "job" ∷ decimal n ∷ []) (draft_at 1 n (shape_of 0 0 []) (config_of 0 0 0 0 0 0)) in
+    let Q : List ℕ → Type 0 = λ t. IsStep first_draft (codes "job" ∷ t ∷ []) (draft_at 1 2 (shape_of 0 0 []) (config_of 0 0 0 0 0 0)) in
+    subst P (sym e) (subst Q two_is job_two)
 
 any_format : (f : ℕ) → (f == 2 || true) ≡ true
 any_format f = grind (arith, nat_tests)
 
 -- the pages
-pub step_pages : (built : Bool) (f p z : ℕ) → IsGood (shape_of p z []) → p < 2 ^ 32 → z < 2 ^ 32 → IsStep built (draft_at 1 f (shape_of 0 0 []) (config_of 0 0 0 0 0 0)) (codes "pages" ∷ decimal p ∷ decimal z ∷ []) (draft_at 2 f (shape_of p z []) (config_of 0 0 0 0 0 0))
-step_pages built f p z good hp hz =
+pub step_pages : (f p z : ℕ) → IsGood (shape_of p z []) → p < 2 ^ 32 → z < 2 ^ 32 → IsStep (draft_at 1 f (shape_of 0 0 []) (config_of 0 0 0 0 0 0)) (codes "pages" ∷ decimal p ∷ decimal z ∷ []) (draft_at 2 f (shape_of p z []) (config_of 0 0 0 0 0 0))
+step_pages f p z good hp hz =
     let d = draft_at 1 f (shape_of 0 0 []) (config_of 0 0 0 0 0 0) in
     let says = says_two p z hp hz in
     let args = decimal p ∷ decimal z ∷ [] in
-    step built d (codes "pages") args Pages _ refl refl
+    step d (codes "pages") args Pages _ refl refl
     (record {
       comes = rw (any_format f) refl;
       said_well = says.0;
       numbers = rw (says.1, says.2) (pages_pass d.job p z refl good);
     })
-    (λ e. refl)
     (rw (says.1, says.2) refl)
 
 -- the tests of ranks at the ranks that may be there
@@ -122,70 +114,63 @@ streams_come f last (inl e) = rw (e, any_format f) refl
 streams_come f last (inr e) = rw (e, any_format f) refl
 
 -- a disk; the drafts behind the pages and behind a disk differ in their rank alone
-pub step_disk : (built : Bool) (last f p z : ℕ) (ds : List DiskShape) (x : DiskShape) (more : List DiskShape) → (last ≡ 2) ⊎ (last ≡ 3) → IsGood (shape_of p z (ds ++ x ∷ more)) → 1 ≤ x.blocks → x.blocks < 2 ^ 32 → x.block_size < 2 ^ 32 → IsStep built (draft_at last f (shape_of p z ds) (config_of 0 0 0 0 0 0)) (disk_fields x) (draft_at 3 f (shape_of p z (ds ++ x ∷ [])) (config_of 0 0 0 0 0 0))
-step_disk built last f p z ds x more at good some hb hz =
+pub step_disk : (last f p z : ℕ) (ds : List DiskShape) (x : DiskShape) (more : List DiskShape) → (last ≡ 2) ⊎ (last ≡ 3) → IsGood (shape_of p z (ds ++ x ∷ more)) → 1 ≤ x.blocks → x.blocks < 2 ^ 32 → x.block_size < 2 ^ 32 → IsStep (draft_at last f (shape_of p z ds) (config_of 0 0 0 0 0 0)) (disk_fields x) (draft_at 3 f (shape_of p z (ds ++ x ∷ [])) (config_of 0 0 0 0 0 0))
+step_disk last f p z ds x more at good some hb hz =
     let d = draft_at last f (shape_of p z ds) (config_of 0 0 0 0 0 0) in
     let says = says_two x.blocks x.block_size hb hz in
     let args = decimal x.blocks ∷ decimal x.block_size ∷ [] in
-    step built d (codes "disk") args Disk _ (ends_later last at) refl
+    step d (codes "disk") args Disk _ (ends_later last at) refl
     (record {
       comes = disk_comes f last at;
       said_well = says.0;
       numbers = rw (says.1, says.2) (disk_passes d.job x more good some);
     })
-    (λ e. refl)
     (rw (says.1, says.2) refl)
 
 -- a limit
-pub step_streams : (built : Bool) (last f : ℕ) (s : Shape) (a : ℕ) → (last ≡ 2) ⊎ (last ≡ 3) → Between 1 8 a → (built ≡ true → a ≡ 1) → IsStep built (draft_at last f s (config_of 0 0 0 0 0 0)) (codes "streams" ∷ decimal a ∷ []) (draft_at 4 f s (config_of a 0 0 0 0 0))
-step_streams built last f s a at ha b =
+pub step_streams : (last f : ℕ) (s : Shape) (a : ℕ) → (last ≡ 2) ⊎ (last ≡ 3) → Between 1 8 a → IsStep (draft_at last f s (config_of 0 0 0 0 0 0)) (codes "streams" ∷ decimal a ∷ []) (draft_at 4 f s (config_of a 0 0 0 0 0))
+step_streams last f s a at ha =
     let says = says_one a (omega (arith, ha.1)) in
-    step built (draft_at last f s (config_of 0 0 0 0 0 0)) (codes "streams") (decimal a ∷ []) Streams _ (ends_later last at) refl
+    step (draft_at last f s (config_of 0 0 0 0 0 0)) (codes "streams") (decimal a ∷ []) Streams _ (ends_later last at) refl
     (record { comes = streams_come f last at; said_well = says.0; numbers = rw says.1 (within 8 1 8 a ha.0 ha.1) })
-    (λ e. rw says.1 (above_not a 1 (omega (arith, b e))))
     (rw says.1 refl)
 
-pub step_credit : (built : Bool) (f : ℕ) (s : Shape) (a b : ℕ) → Between 1 1024 b → IsStep built (draft_at 4 f s (config_of a 0 0 0 0 0)) (codes "credit" ∷ decimal b ∷ []) (draft_at 5 f s (config_of a b 0 0 0 0))
-step_credit built f s a b hb =
+pub step_credit : (f : ℕ) (s : Shape) (a b : ℕ) → Between 1 1024 b → IsStep (draft_at 4 f s (config_of a 0 0 0 0 0)) (codes "credit" ∷ decimal b ∷ []) (draft_at 5 f s (config_of a b 0 0 0 0))
+step_credit f s a b hb =
     let says = says_one b (omega (arith, hb.1)) in
-    step built (draft_at 4 f s (config_of a 0 0 0 0 0)) (codes "credit") (decimal b ∷ []) Credit _ refl refl
+    step (draft_at 4 f s (config_of a 0 0 0 0 0)) (codes "credit") (decimal b ∷ []) Credit _ refl refl
     (record { comes = rw (any_format f) refl; said_well = says.0; numbers = rw says.1 (within 9 1 1024 b hb.0 hb.1) })
-    (λ e. refl)
     (rw says.1 refl)
 
-pub step_outbox : (built : Bool) (f : ℕ) (s : Shape) (a b c : ℕ) → Between 1 1024 c → IsStep built (draft_at 5 f s (config_of a b 0 0 0 0)) (codes "outbox" ∷ decimal c ∷ []) (draft_at 6 f s (config_of a b c 0 0 0))
-step_outbox built f s a b c hc =
+pub step_outbox : (f : ℕ) (s : Shape) (a b c : ℕ) → Between 1 1024 c → IsStep (draft_at 5 f s (config_of a b 0 0 0 0)) (codes "outbox" ∷ decimal c ∷ []) (draft_at 6 f s (config_of a b c 0 0 0))
+step_outbox f s a b c hc =
     let says = says_one c (omega (arith, hc.1)) in
-    step built (draft_at 5 f s (config_of a b 0 0 0 0)) (codes "outbox") (decimal c ∷ []) Outbox _ refl refl
+    step (draft_at 5 f s (config_of a b 0 0 0 0)) (codes "outbox") (decimal c ∷ []) Outbox _ refl refl
     (record { comes = rw (any_format f) refl; said_well = says.0; numbers = rw says.1 (within 10 1 1024 c hc.0 hc.1) })
-    (λ e. refl)
     (rw says.1 refl)
 
 region_passes : (w : Written) (n : ℕ) → Between 1 256 n → n ≤ w.config.outbox → region_fault w n ≡ None
 region_passes w n h le = both_none (outside 11 1 256 n) (fault_if (nat_lt w.config.outbox n) (Limit 11)) (within 11 1 256 n h.0 h.1) (there_not (nat_lt w.config.outbox n) (Limit 11) (above_not n w.config.outbox le))
 
-pub step_region : (built : Bool) (f : ℕ) (s : Shape) (a b c d : ℕ) → Between 1 256 d → d ≤ c → (built ≡ true → d ≡ 1) → IsStep built (draft_at 6 f s (config_of a b c 0 0 0)) (codes "region" ∷ decimal d ∷ []) (draft_at 7 f s (config_of a b c d 0 0))
-step_region built f s a b c d hd less one =
+pub step_region : (f : ℕ) (s : Shape) (a b c d : ℕ) → Between 1 256 d → d ≤ c → IsStep (draft_at 6 f s (config_of a b c 0 0 0)) (codes "region" ∷ decimal d ∷ []) (draft_at 7 f s (config_of a b c d 0 0))
+step_region f s a b c d hd less =
     let says = says_one d (omega (arith, hd.1)) in
-    step built (draft_at 6 f s (config_of a b c 0 0 0)) (codes "region") (decimal d ∷ []) Region _ refl refl
+    step (draft_at 6 f s (config_of a b c 0 0 0)) (codes "region") (decimal d ∷ []) Region _ refl refl
     (record { comes = rw (any_format f) refl; said_well = says.0; numbers = rw says.1 (region_passes (head_job f s (config_of a b c 0 0 0)) d hd less) })
-    (λ e. rw says.1 (above_not d 1 (omega (arith, one e))))
     (rw says.1 refl)
 
-pub step_rounds : (built : Bool) (f : ℕ) (s : Shape) (a b c d m : ℕ) → Between 1 64 m → (built ≡ true → m ≡ 1) → IsStep built (draft_at 7 f s (config_of a b c d 0 0)) (codes "rounds" ∷ decimal m ∷ []) (draft_at 8 f s (config_of a b c d m 0))
-step_rounds built f s a b c d m hm one =
+pub step_rounds : (f : ℕ) (s : Shape) (a b c d m : ℕ) → Between 1 64 m → IsStep (draft_at 7 f s (config_of a b c d 0 0)) (codes "rounds" ∷ decimal m ∷ []) (draft_at 8 f s (config_of a b c d m 0))
+step_rounds f s a b c d m hm =
     let says = says_one m (omega (arith, hm.1)) in
-    step built (draft_at 7 f s (config_of a b c d 0 0)) (codes "rounds") (decimal m ∷ []) Rounds _ refl refl
+    step (draft_at 7 f s (config_of a b c d 0 0)) (codes "rounds") (decimal m ∷ []) Rounds _ refl refl
     (record { comes = rw (any_format f) refl; said_well = says.0; numbers = rw says.1 (within 12 1 64 m hm.0 hm.1) })
-    (λ e. rw says.1 (above_not m 1 (omega (arith, one e))))
     (rw says.1 refl)
 
-pub step_dirty : (built : Bool) (f : ℕ) (s : Shape) (a b c d m t : ℕ) → t ≤ 2 ^ 20 → (built ≡ true → t ≡ 0) → IsStep built (draft_at 8 f s (config_of a b c d m 0)) (codes "dirty" ∷ decimal t ∷ []) (draft_at 9 f s (config_of a b c d m t))
-step_dirty built f s a b c d m t ht none =
+pub step_dirty : (f : ℕ) (s : Shape) (a b c d m t : ℕ) → t ≤ 2 ^ 20 → IsStep (draft_at 8 f s (config_of a b c d m 0)) (codes "dirty" ∷ decimal t ∷ []) (draft_at 9 f s (config_of a b c d m t))
+step_dirty f s a b c d m t ht =
     let says = says_one t (omega (arith, ht)) in
-    step built (draft_at 8 f s (config_of a b c d m 0)) (codes "dirty") (decimal t ∷ []) Dirty _ refl refl
+    step (draft_at 8 f s (config_of a b c d m 0)) (codes "dirty") (decimal t ∷ []) Dirty _ refl refl
     (record { comes = rw (any_format f) refl; said_well = says.0; numbers = rw says.1 (within 13 0 (2 ^ 20) t (omega arith) ht) })
-    (λ e. rw says.1 (above_not t 0 (omega (arith, none e))))
     (rw says.1 refl)
 
 -- drafts behind the limits
@@ -193,12 +178,11 @@ abbrev pub draft_in : ℕ → Shape → ℕ → ℕ → Config → List Fault �
 draft_in last shape format group config faults inits traces =
     record { last = last; job = record { shape = shape; format = format; group = group; config = config; faults = faults; init = inits; traces = traces } }
 
-pub step_group : (built : Bool) (s : Shape) (g : ℕ) (k : Config) → Between 1 16 g → (built ≡ true → ⊥) → IsStep built (draft_in 9 s 2 1 k [] [] []) (codes "group" ∷ decimal g ∷ []) (draft_in 10 s 2 g k [] [] [])
-step_group built s g k hg no_group =
+pub step_group : (s : Shape) (g : ℕ) (k : Config) → Between 1 16 g → IsStep (draft_in 9 s 2 1 k [] [] []) (codes "group" ∷ decimal g ∷ []) (draft_in 10 s 2 g k [] [] [])
+step_group s g k hg =
     let says = says_one g (omega (arith, hg.1)) in
-    step built (draft_in 9 s 2 1 k [] [] []) (codes "group") (decimal g ∷ []) Group _ refl refl
+    step (draft_in 9 s 2 1 k [] [] []) (codes "group") (decimal g ∷ []) Group _ refl refl
     (record { comes = refl; said_well = says.0; numbers = rw says.1 (within 18 1 16 g hg.0 hg.1) })
-    (λ e. absurd (no_group e))
     (rw says.1 refl)
 
 -- where a body's lines may come
@@ -263,12 +247,11 @@ guest_comes f last b = elim (cases_lt last 14) [
 ]
 
 -- a cancel number
-pub step_cancel : (built : Bool) (last : ℕ) (s : Shape) (f g : ℕ) (k : Config) (n : ℕ) → IsBehind f last → last < 11 → n < 2 ^ 32 → (built ≡ true → ⊥) → IsStep built (draft_in last s f g k [] [] []) (codes "cancel" ∷ decimal n ∷ []) (draft_in 11 s f g (record k { cancel = Some n }) [] [] [])
-step_cancel built last s f g k n b before small none =
+pub step_cancel : (last : ℕ) (s : Shape) (f g : ℕ) (k : Config) (n : ℕ) → IsBehind f last → last < 11 → n < 2 ^ 32 → IsStep (draft_in last s f g k [] [] []) (codes "cancel" ∷ decimal n ∷ []) (draft_in 11 s f g (record k { cancel = Some n }) [] [] [])
+step_cancel last s f g k n b before small =
     let says = says_one n small in
-    step built (draft_in last s f g k [] [] []) (codes "cancel") (decimal n ∷ []) Cancel _ (goes_on last b.high) refl
+    step (draft_in last s f g k [] [] []) (codes "cancel") (decimal n ∷ []) Cancel _ (goes_on last b.high) refl
     (record { comes = cancel_comes f last b before; said_well = says.0; numbers = refl })
-    (λ e. absurd (none e))
     (rw says.1 refl)
 
 -- a planned fault
@@ -321,37 +304,34 @@ plan_passes w said x e few good =
     let any : list_any (has_bad_number w.config.streams) said ≡ false = ap (list_any (has_bad_number w.config.streams)) e ∙ rw none refl in
     both_none (fault_if (nat_le 32 (length w.faults)) (Limit 15)) (fault_if (list_any (has_bad_number w.config.streams) said) (Limit 16)) (there_not (nat_le 32 (length w.faults)) (Limit 15) (least_not (length w.faults) 32 few)) (there_not (list_any (has_bad_number w.config.streams) said) (Limit 16) any)
 
-pub step_fault : (built : Bool) (last : ℕ) (s : Shape) (f g : ℕ) (k : Config) (fs : List Fault) (x : Fault) → IsBehind f last → last ≤ 12 → k.streams ≤ 8 → fault_number x < 2 ^ 32 → is_good_fault k.streams x ≡ true → length fs < 32 → (built ≡ true → ⊥) → IsStep built (draft_in last s f g k fs [] []) (fault_fields x) (draft_in 12 s f g k (fs ++ x ∷ []) [] [])
-step_fault built last s f g k fs x b before streams small good few none =
+pub step_fault : (last : ℕ) (s : Shape) (f g : ℕ) (k : Config) (fs : List Fault) (x : Fault) → IsBehind f last → last ≤ 12 → k.streams ≤ 8 → fault_number x < 2 ^ 32 → is_good_fault k.streams x ≡ true → length fs < 32 → IsStep (draft_in last s f g k fs [] []) (fault_fields x) (draft_in 12 s f g k (fs ++ x ∷ []) [] [])
+step_fault last s f g k fs x b before streams small good few =
     let d = draft_in last s f g k fs [] [] in
     let said = fault_said x small k.streams streams good in
-    let P : List (List ℕ) → Type 0 = λ l. IsStep built d l (draft_in 12 s f g k (fs ++ x ∷ []) [] []) in
+    let P : List (List ℕ) → Type 0 = λ l. IsStep d l (draft_in 12 s f g k (fs ++ x ∷ []) [] []) in
     subst P (sym said.word)
-    (step built d (codes "fault") (tail (fault_fields x)) FaultWord _ (goes_on last b.high) refl
+    (step d (codes "fault") (tail (fault_fields x)) FaultWord _ (goes_on last b.high) refl
     (record { comes = fault_comes f last b before; said_well = said.said_well; numbers = plan_passes d.job (faults_said (call_of (head (tail (fault_fields x)))) (tail (tail (fault_fields x)))) x said.said few good })
-    (λ e. absurd (none e))
     (ap (λ (ys : List Fault). draft_in 12 s f g k (fs ++ ys) [] []) said.said))
 
 -- a first content
-pub step_init : (built : Bool) (last : ℕ) (s : Shape) (f g : ℕ) (k : Config) (fs : List Fault) (is : List Init) (x : Init) → IsBehind f last → last ≤ 13 → IsGood s → x.unit.0 < units s → units s ≤ 2 ^ 20 → after_last is ≤ x.unit.0 → IsPattern x.pattern → IsStep built (draft_in last s f g k fs is []) (init_fields x) (draft_in 13 s f g k fs (is ++ x ∷ []) [])
-step_init built last s f g k fs is x b before good there few rises pattern =
+pub step_init : (last : ℕ) (s : Shape) (f g : ℕ) (k : Config) (fs : List Fault) (is : List Init) (x : Init) → IsBehind f last → last ≤ 13 → IsGood s → x.unit.0 < units s → units s ≤ 2 ^ 20 → after_last is ≤ x.unit.0 → IsPattern x.pattern → IsStep (draft_in last s f g k fs is []) (init_fields x) (draft_in 13 s f g k fs (is ++ x ∷ []) [])
+step_init last s f g k fs is x b before good there few rises pattern =
     let d = draft_in last s f g k fs is [] in
     let says = says_bytes x.unit.0 x.pattern (omega arith) pattern in
-    step built d (codes "init") (decimal x.unit.0 ∷ hex x.pattern ∷ []) InitWord _ (goes_on last b.high) refl
+    step d (codes "init") (decimal x.unit.0 ∷ hex x.pattern ∷ []) InitWord _ (goes_on last b.high) refl
     (record {
       comes = init_comes f last b before;
       said_well = says.0;
       numbers = rw says.1 (both_none (fault_if (nat_le (units s) x.unit.0) OutOfRange) (fault_if (nat_lt x.unit.0 (after_last is)) Order) (there_not _ OutOfRange (least_not x.unit.0 (units s) there)) (there_not _ Order (above_not (after_last is) x.unit.0 rises)));
     })
-    (λ e. refl)
     (rw (says.1, says.2) refl)
 
 -- a guest, and its operations
-pub step_guest : (built : Bool) (last : ℕ) (s : Shape) (f g : ℕ) (k : Config) (fs : List Fault) (is : List Init) (ts : List (List Op)) → IsBehind f last → length ts < 16 → (built ≡ true → ts ≡ []) → IsStep built (draft_in last s f g k fs is ts) (codes "guest" ∷ []) (draft_in 14 s f g k fs is (ts ++ [] ∷ []))
-step_guest built last s f g k fs is ts b few first =
-    step built (draft_in last s f g k fs is ts) (codes "guest") [] Guest _ (goes_on last b.high) refl
+pub step_guest : (last : ℕ) (s : Shape) (f g : ℕ) (k : Config) (fs : List Fault) (is : List Init) (ts : List (List Op)) → IsBehind f last → length ts < 16 → IsStep (draft_in last s f g k fs is ts) (codes "guest" ∷ []) (draft_in 14 s f g k fs is (ts ++ [] ∷ []))
+step_guest last s f g k fs is ts b few =
+    step (draft_in last s f g k fs is ts) (codes "guest") [] Guest _ (goes_on last b.high) refl
     (record { comes = guest_comes f last b; said_well = refl; numbers = there_not (nat_le 16 (length ts)) (Limit 17) (least_not (length ts) 16 few) })
-    (λ e. rw (first e) refl)
     refl
 
 op_word : (op : Op) → word_of true (head (op_fields op)) ≡ Some (Operation (verb_in op))
@@ -369,37 +349,29 @@ op_split (Fetch disk block offset len) = refl
 verb_comes : (f : ℕ) (v : Verb) → may_come f 14 (Operation v) ≡ true
 verb_comes f v = rw (any_format f) refl
 
-op_built : (op : Op) → is_on_disk op ≡ true → (w : Written) (args : List (List ℕ)) → is_unbuilt w (Operation (verb_in op)) args ≡ false
-op_built (Store addr len pat) h w args = absurd (cc)
-op_built (Load addr len) h w args = absurd (cc)
-op_built (Write disk block count pat) h w args = refl
-op_built (Fetch disk block offset len) h w args = refl
-
 op_passes : (w : Written) (op : Op) → op_fault w.shape op ≡ None → operations_so_far w + op_count op ≤ 2 ^ 20 → operation_fault w op ≡ None
 op_passes w op acts few = both_none (op_fault w.shape op) (fault_if (nat_lt (2 ^ 20) (operations_so_far w + op_count op)) TooMany) acts (there_not (nat_lt (2 ^ 20) (operations_so_far w + op_count op)) TooMany (above_not (operations_so_far w + op_count op) (2 ^ 20) few))
 
-pub step_op : (built : Bool) (s : Shape) (f g : ℕ) (k : Config) (fs : List Fault) (is : List Init) (front : List (List Op)) (before : List Op) (op : Op) → IsGoodOp s op → sum_by count_all (front ++ before ∷ []) + op_count op ≤ 2 ^ 20 → (built ≡ true → is_on_disk op ≡ true) → IsStep built (draft_in 14 s f g k fs is (front ++ before ∷ [])) (op_fields op) (draft_in 14 s f g k fs is (front ++ (before ++ op ∷ []) ∷ []))
-step_op built s f g k fs is front before op good few on_disk =
+pub step_op : (s : Shape) (f g : ℕ) (k : Config) (fs : List Fault) (is : List Init) (front : List (List Op)) (before : List Op) (op : Op) → IsGoodOp s op → sum_by count_all (front ++ before ∷ []) + op_count op ≤ 2 ^ 20 → IsStep (draft_in 14 s f g k fs is (front ++ before ∷ [])) (op_fields op) (draft_in 14 s f g k fs is (front ++ (before ++ op ∷ []) ∷ []))
+step_op s f g k fs is front before op good few =
     let d = draft_in 14 s f g k fs is (front ++ before ∷ []) in
     let e = draft_in 14 s f g k fs is (front ++ (before ++ op ∷ []) ∷ []) in
     let says = op_says s op good in
     let args = tail (op_fields op) in
-    let P : List (List ℕ) → Type 0 = λ l. IsStep built d l e in
+    let P : List (List ℕ) → Type 0 = λ l. IsStep d l e in
     let Q : Op → Type 0 = λ o. operation_fault d.job o ≡ None in
     subst P (sym (op_split op))
-    (step built d (head (op_fields op)) args (Operation (verb_in op)) e refl (op_word op)
+    (step d (head (op_fields op)) args (Operation (verb_in op)) e refl (op_word op)
     (record {
       comes = verb_comes f (verb_in op);
       said_well = says.0;
       numbers = subst Q (sym says.1) (op_passes d.job op good.acts few);
     })
-    (λ h. op_built op (on_disk h) d.job args)
     (ap (λ (o : Op). draft_in 14 s f g k fs is (with_op (front ++ before ∷ []) o)) says.1 ∙ ap (λ (ts : List (List Op)). draft_in 14 s f g k fs is ts) (with_op_is front before op)))
 
 -- the end
-pub step_end : (built : Bool) (s : Shape) (f g : ℕ) (k : Config) (fs : List Fault) (is : List Init) (ts : List (List Op)) → exceeds k.cancel (sum_by count_all ts) ≡ false → IsStep built (draft_in 14 s f g k fs is ts) (codes "end" ∷ []) (draft_in 15 s f g k fs is ts)
-step_end built s f g k fs is ts fits =
-    step built (draft_in 14 s f g k fs is ts) (codes "end") [] End _ refl refl
+pub step_end : (s : Shape) (f g : ℕ) (k : Config) (fs : List Fault) (is : List Init) (ts : List (List Op)) → exceeds k.cancel (sum_by count_all ts) ≡ false → IsStep (draft_in 14 s f g k fs is ts) (codes "end" ∷ []) (draft_in 15 s f g k fs is ts)
+step_end s f g k fs is ts fits =
+    step (draft_in 14 s f g k fs is ts) (codes "end") [] End _ refl refl
     (record { comes = rw (any_format f) refl; said_well = refl; numbers = there_not (exceeds k.cancel (sum_by count_all ts)) (Limit 14) fits })
-    (λ e. refl)
     refl

@@ -1,17 +1,17 @@
 -- What is refused of a line, in the order of the tests.
-use Rattle.std.proofs.Common.{◌≡◌, Result, Ok, Err, OnOk, ℕ, zero, suc, get_or, set, inl, inr, ◌+◌, ◌-◌, ◌^◌, ◌<◌, ◌≤◌, ◌&&◌, Bool, true, false, List, [], ◌∷◌, ◌++◌, length, Option, Some, None, nat_lt, nat_le, refl, sym, ap, ◌∙◌, arith}
+use Rattle.std.proofs.Common.{◌≡◌, Result, Ok, Err, OnOk, ℕ, zero, suc, get_or, set, inl, inr, ◌+◌, ◌-◌, ◌^◌, ◌<◌, ◌≤◌, true, false, List, [], ◌∷◌, ◌++◌, length, Option, Some, None, nat_lt, nat_le, refl, sym, ap, ◌∙◌, arith}
 use Rattle.std.proofs.lemmas.Bool.{cases_lt}
 use Rattle.std.proofs.lemmas.List.{length-append, map-append}
 use Rattle.std.proofs.lemmas.Bool.Decides.{nat_tests}
 use Rattle.xv_base.specs.declared.text.LineWhy.{LineWhy}
-use Rattle.xv_base.specs.declared.text.LineWhy.TheVariants.{Limit, Unbuilt, TooMany}
+use Rattle.xv_base.specs.declared.text.LineWhy.TheVariants.{Limit, TooMany}
+use Rattle.xv_base.specs.declared.limits.Fault.{Fault}
 use Rattle.xv_base.specs.declared.pattern.Init.{Init}
 use Rattle.xv_base.specs.Units.{Shape, units}
 use Rattle.xv_trace.specs.declared.op.Op.{Op}
 use Rattle.xv_trace.specs.declared.op.Verb.{Verb}
 use Rattle.xv_trace.specs.Operations.{op_fault, op_count}
 use Rattle.xv_trace.specs.OpText.{Program, kinds_of, op_of, verb_fault}
-use Rattle.xv_job.specs.Built.{is_unbuilt_verb}
 use Rattle.xv_text.specs.declared.row.Kind.TheVariants.{Number, Bytes}
 use Rattle.xv_text.specs.Fields.{Values, values, number_at, fields_fault, or_else, fault_if}
 use Rattle.xv_job.specs.declared.word.Word.TheVariants.{Fault as FaultWord, Init as InitWord, Operation}
@@ -26,28 +26,35 @@ use Rattle.xv_job.proofs.Lists.{after_last_push, has_last, get_last, with_op_is}
 le_test : (a b : ℕ) → a ≤ b → nat_le a b ≡ true
 le_test a b h = grind (arith, nat_tests)
 
-pub too_many_faults : (built : Bool) (w : Written) (args : List (List ℕ)) (what : List ℕ) (numbers : List (List ℕ)) (call : Call) → args ≡ what ∷ numbers → Some call ≡ call_of what → fields_fault (call_kinds call) numbers ≡ None → 32 ≤ length w.faults → behind_fault built w FaultWord args ≡ Some (Limit 15)
-too_many_faults built w args what numbers call e f g h = rw (e, ← f, g, le_test 32 (length w.faults) h) refl
+pub too_many_faults : (w : Written) (args : List (List ℕ)) (what : List ℕ) (numbers : List (List ℕ)) (call : Call) → args ≡ what ∷ numbers → Some call ≡ call_of what → fields_fault (call_kinds call) numbers ≡ None → 32 ≤ length w.faults → behind_fault w FaultWord args ≡ Some (Limit 15)
+too_many_faults w args what numbers call e f g h = rw (e, ← f, g, le_test 32 (length w.faults) h) refl
 
 below_test : (a b : ℕ) → b < a → nat_le a b ≡ false
 below_test a b h = grind (arith, nat_tests)
 
-pub bad_fault : (built : Bool) (w : Written) (args : List (List ℕ)) (what : List ℕ) (numbers : List (List ℕ)) (call : Call) (row : Values) → args ≡ what ∷ numbers → Some call ≡ call_of what → fields_fault (call_kinds call) numbers ≡ None → row ≡ values (call_kinds call) numbers → length w.faults < 32 → has_bad_number w.config.streams (fault_of call row) ≡ true → behind_fault built w FaultWord args ≡ Some (Limit 16)
-bad_fault built w args what numbers call row e f g r h bad =
+pub bad_fault : (w : Written) (args : List (List ℕ)) (what : List ℕ) (numbers : List (List ℕ)) (call : Call) (row : Values) → args ≡ what ∷ numbers → Some call ≡ call_of what → fields_fault (call_kinds call) numbers ≡ None → row ≡ values (call_kinds call) numbers → length w.faults < 32 → has_bad_number w.config.streams (fault_of call row) ≡ true → behind_fault w FaultWord args ≡ Some (Limit 16)
+bad_fault w args what numbers call row e f g r h bad =
     let bad_too : has_bad_number w.config.streams (fault_of call (values (call_kinds call) numbers)) ≡ true = ap (λ (v : Values). has_bad_number w.config.streams (fault_of call v)) (sym r) ∙ bad in
     rw (e, ← f, g, below_test 32 (length w.faults) h, bad_too) refl
 
-and_false : (b : Bool) → (b && false) ≡ false
-and_false true = refl
-and_false false = refl
+pub good_fault : (w : Written) (args : List (List ℕ)) (what : List ℕ) (numbers : List (List ℕ)) (call : Call) (row : Values) (x : Fault) → args ≡ what ∷ numbers → Some call ≡ call_of what → fields_fault (call_kinds call) numbers ≡ None → row ≡ values (call_kinds call) numbers → length w.faults < 32 → x ≡ fault_of call row → has_bad_number w.config.streams x ≡ false → behind_fault w FaultWord args ≡ None
+good_fault w args what numbers call row x e f g r h is good =
+    let read : x ≡ fault_of call (values (call_kinds call) numbers) = is ∙ ap (fault_of call) r in
+    let good_too : has_bad_number w.config.streams (fault_of call (values (call_kinds call) numbers)) ≡ false = ap (has_bad_number w.config.streams) (sym read) ∙ good in
+    rw (e, ← f, g, below_test 32 (length w.faults) h, good_too) refl
+
+pub fault_said : (w : Written) (args : List (List ℕ)) (what : List ℕ) (numbers : List (List ℕ)) (call : Call) (row : Values) (x : Fault) (fs : List Fault) → args ≡ what ∷ numbers → Some call ≡ call_of what → row ≡ values (call_kinds call) numbers → x ≡ fault_of call row → fs ≡ w.faults ++ x ∷ [] → record w { faults = fs } ≡ said w FaultWord args
+fault_said w args what numbers call row x fs e f r is k =
+    let read : x ≡ fault_of call (values (call_kinds call) numbers) = is ∙ ap (fault_of call) r in
+    rw (e, ← f, k, read) refl
 
 lt_test : (a b : ℕ) → b ≤ a → nat_lt a b ≡ false
 lt_test a b h = grind (arith, nat_tests)
 
-pub init_passes : (built : Bool) (w : Written) (args : List (List ℕ)) (row : Values) (n : ℕ) → fields_fault (Number ∷ Bytes ∷ []) args ≡ None → row ≡ values (Number ∷ Bytes ∷ []) args → n ≡ number_at row 0 → n < units w.shape → after_last w.init ≤ n → behind_fault built w InitWord args ≡ None
-init_passes built w args row n e r k there rises =
+pub init_passes : (w : Written) (args : List (List ℕ)) (row : Values) (n : ℕ) → fields_fault (Number ∷ Bytes ∷ []) args ≡ None → row ≡ values (Number ∷ Bytes ∷ []) args → n ≡ number_at row 0 → n < units w.shape → after_last w.init ≤ n → behind_fault w InitWord args ≡ None
+init_passes w args row n e r k there rises =
     let is : n ≡ number_at (values (Number ∷ Bytes ∷ []) args) 0 = k ∙ ap (λ (v : Values). number_at v 0) r in
-    rw (e, ← is, below_test (units w.shape) n there, lt_test n (after_last w.init) rises, and_false built) refl
+    rw (e, ← is, below_test (units w.shape) n there, lt_test n (after_last w.init) rises) refl
 
 pub init_said : (w : Written) (args : List (List ℕ)) (row : Values) (n : ℕ) (p : List ℕ) (is : List Init) → row ≡ values (Number ∷ Bytes ∷ []) args → n ≡ number_at row 0 → p ≡ row.pattern → is ≡ w.init ++ record { unit = record { 0 = n }; pattern = p } ∷ [] → record w { init = is } ≡ said w InitWord args
 init_said w args row n p is r k q e =
@@ -79,30 +86,13 @@ same_test a b c d f g = elim (cases_lt a b) [
 room_is : (n k room c : ℕ) → k ≤ n → room ≡ n - k → nat_lt room c ≡ nat_lt n (k + c)
 room_is n k room c le e = same_test room c n (k + c) (λ h. omega arith) (λ h. omega arith)
 
-found : (a b c d : Option LineWhy) (why : LineWhy) → or_else a (or_else b c) ≡ Some why → or_else a (or_else (or_else b c) d) ≡ Some why
-found (Some x) b c d why h = h
-found None (Some x) c d why h = h
-found None None (Some x) d why h = h
-found None None None d why h = absurd (cc)
-
-not_found : (a b c d : Option LineWhy) → or_else a (or_else b c) ≡ None → or_else a (or_else (or_else b c) d) ≡ d
-not_found (Some x) b c d h = absurd (cc)
-not_found None (Some x) c d h = absurd (cc)
-not_found None None (Some x) d h = absurd (cc)
-not_found None None None d h = refl
-
 verb_fault_is : (w : Written) (shape : Shape) (k room : ℕ) (verb : Verb) (args : List (List ℕ)) → shape ≡ w.shape → k ≡ operations_so_far w → k ≤ 2 ^ 20 → room ≡ 2 ^ 20 - k → verb_fault shape room verb args ≡ or_else (fields_fault (kinds_of verb) args) (or_else (op_fault w.shape (op_of verb (values (kinds_of verb) args))) (fault_if (nat_lt (2 ^ 20) (operations_so_far w + op_count (op_of verb (values (kinds_of verb) args)))) TooMany))
 verb_fault_is w shape k room verb args e f le r =
     let t : nat_lt room (op_count (op_of verb (values (kinds_of verb) args))) ≡ nat_lt (2 ^ 20) (operations_so_far w + op_count (op_of verb (values (kinds_of verb) args))) = room_is (2 ^ 20) (operations_so_far w) room (op_count (op_of verb (values (kinds_of verb) args))) (omega arith) (omega arith) in
     rw (e, t) refl
 
-pub op_refused : (built : Bool) (w : Written) (shape : Shape) (k room : ℕ) (verb : Verb) (args : List (List ℕ)) (why : LineWhy) → shape ≡ w.shape → k ≡ operations_so_far w → k ≤ 2 ^ 20 → room ≡ 2 ^ 20 - k → verb_fault shape room verb args ≡ Some why → behind_fault built w (Operation verb) args ≡ Some why
-op_refused built w shape k room verb args why e f le r h =
-    found (fields_fault (kinds_of verb) args) (op_fault w.shape (op_of verb (values (kinds_of verb) args))) (fault_if (nat_lt (2 ^ 20) (operations_so_far w + op_count (op_of verb (values (kinds_of verb) args)))) TooMany) (fault_if (built && is_unbuilt_verb verb) Unbuilt) why (sym (verb_fault_is w shape k room verb args e f le r) ∙ h)
-
-pub op_behind : (built : Bool) (w : Written) (shape : Shape) (k room : ℕ) (verb : Verb) (args : List (List ℕ)) → shape ≡ w.shape → k ≡ operations_so_far w → k ≤ 2 ^ 20 → room ≡ 2 ^ 20 - k → verb_fault shape room verb args ≡ None → behind_fault built w (Operation verb) args ≡ fault_if (built && is_unbuilt_verb verb) Unbuilt
-op_behind built w shape k room verb args e f le r h =
-    not_found (fields_fault (kinds_of verb) args) (op_fault w.shape (op_of verb (values (kinds_of verb) args))) (fault_if (nat_lt (2 ^ 20) (operations_so_far w + op_count (op_of verb (values (kinds_of verb) args)))) TooMany) (fault_if (built && is_unbuilt_verb verb) Unbuilt) (sym (verb_fault_is w shape k room verb args e f le r) ∙ h)
+pub op_tested : (w : Written) (shape : Shape) (k room : ℕ) (verb : Verb) (args : List (List ℕ)) (found : Option LineWhy) → shape ≡ w.shape → k ≡ operations_so_far w → k ≤ 2 ^ 20 → room ≡ 2 ^ 20 - k → verb_fault shape room verb args ≡ found → behind_fault w (Operation verb) args ≡ found
+op_tested w shape k room verb args found e f le r h = sym (verb_fault_is w shape k room verb args e f le r) ∙ h
 
 -- the last trace with an operation more
 set_last : {X : Type 0} (front : List X) (last new : X) → set (front ++ last ∷ []) (length (front ++ last ∷ []) - 1) new ≡ front ++ new ∷ []
@@ -126,6 +116,3 @@ op_pushed ts n new old op some e at f =
 pub on_ok : {T E : Type 0} (r : Result T E) (P Q : Type 0) → (P → Q) → OnOk r P → OnOk r Q
 on_ok (Ok x) P Q f h = f h
 on_ok (Err e) P Q f h = h
-
-pub unbuilt_there : (a b : Bool) → a ≡ true → b ≡ true → fault_if (a && b) Unbuilt ≡ Some Unbuilt
-unbuilt_there a b e f = rw (e, f) refl

@@ -289,6 +289,6 @@ next_draft d fields = draft_by d (word_of (is_in_traces d) (head fields)) (tail 
 abbrev pub is_complete : Draft → Bool
 is_complete d = d.last == 15
 
--- what reads a job
+-- what reads a job, of either job format
 abbrev pub job_reader : Reader Draft
 job_reader = record { is_ended = is_complete; fault = line_fault; next = next_draft }

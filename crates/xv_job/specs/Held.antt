@@ -1,18 +1,17 @@
 -- A draft as the reader holds it, and what is refused of a line whose word may come.
-use Rattle.std.specs.Prelude.{◌≡◌, ◌&&◌, ℕ, Bool, false, List, [], ◌∷◌, Option, Some, None}
+use Rattle.std.specs.Prelude.{◌≡◌, ℕ, false, List, [], ◌∷◌, Option, Some, None}
 use Rattle.xv_base.specs.declared.text.LineWhy.{LineWhy}
-use Rattle.xv_base.specs.declared.text.LineWhy.TheVariants.{Unbuilt, Limit}
+use Rattle.xv_base.specs.declared.text.LineWhy.TheVariants.{Limit}
 use Rattle.xv_base.specs.declared.layout.LayoutFault.{LayoutFault}
 use Rattle.xv_base.specs.declared.layout.LayoutFault.TheVariants.{NoPage, BadSize, TooManyUnits, TooManyBytes}
 use Rattle.xv_base.specs.Units.{Shape, shape_of}
-use Rattle.xv_text.specs.Fields.{or_else, fault_if}
+use Rattle.xv_text.specs.Fields.{or_else}
 use Rattle.xv_job.specs.declared.word.Word.{Word}
 use Rattle.xv_job.specs.declared.held.Held.{Held}
 use Rattle.xv_job.specs.declared.held.Stop.{Stop}
 use Rattle.xv_job.specs.declared.held.Stop.TheVariants.{Refused, NoMemory}
 use Rattle.xv_job.specs.Written.{Written, ops_held, AreTraces}
 use Rattle.xv_job.specs.Draft.{Draft, first_draft, next_draft, line_fault, is_complete, args_fault, numbers_fault, said, after_last, operations_so_far}
-use Rattle.xv_job.specs.Built.{is_unbuilt}
 
 -- the machine so far
 abbrev pub shape_or_none : Option Shape → Shape
@@ -49,9 +48,9 @@ Leads d (l ∷ ls) e = (is_complete d ≡ false) × (line_fault d l ≡ None) ×
 abbrev pub IsReached : Draft → Type 0
 IsReached d = (lines : List (List (List ℕ))) × Leads first_draft lines d
 
--- what is wrong with a line whose word may come, with or without the test for what is not built
-abbrev pub behind_fault : Bool → Written → Word → List (List ℕ) → Option LineWhy
-behind_fault built w word args = or_else (args_fault word args) (or_else (numbers_fault w word args) (fault_if (built && is_unbuilt w word args) Unbuilt))
+-- what is wrong with a line whose word may come: what follows the word, and then its numbers
+abbrev pub behind_fault : Written → Word → List (List ℕ) → Option LineWhy
+behind_fault w word args = or_else (args_fault word args) (numbers_fault w word args)
 
 -- why reading stops: a fault that was found, or want of memory, which is free
 abbrev pub Stops : Option LineWhy → Stop → Type 0
@@ -59,8 +58,8 @@ Stops fault (Refused why) = fault ≡ Some why
 Stops fault NoMemory = Unit {0}
 
 -- what a line without a fault does to what is held
-pub record IsTaken (built : Bool) (word : Word) (args : List (List ℕ)) (old new : Held) : Type 0 where
-  pub no_fault : behind_fault built (job_held old) word args ≡ None
+pub record IsTaken (word : Word) (args : List (List ℕ)) (old new : Held) : Type 0 where
+  pub no_fault : behind_fault (job_held old) word args ≡ None
   pub said : job_held new ≡ said (job_held old) word args
   pub consistent : IsConsistent new
   pub last : new.last ≡ old.last

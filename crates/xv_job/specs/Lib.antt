@@ -2,7 +2,5 @@ pub mod Written
 pub mod Words
 pub mod Draft
 pub mod JobText
-pub mod Built
-pub mod BuiltEvents
 pub mod Held
 pub mod Texts

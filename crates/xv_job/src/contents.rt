@@ -1,6 +1,6 @@
 //! The lines of first contents.
 
-ghost use Rattle.std.specs.Prelude.{◌≡◌, Bool, IfErr, OnOk};
+ghost use Rattle.std.specs.Prelude.{◌≡◌, IfErr, OnOk};
 ghost use Rattle.xv_base.specs.Layout.{IsGood};
 ghost use Rattle.xv_job.specs.declared.word.Word.TheVariants.{Init as InitWord};
 ghost use Rattle.xv_job.specs.Held.{job_held, IsConsistent, IsTaken, Stops, behind_fault};
@@ -15,8 +15,8 @@ impl Held {
     pub(crate) fn take_init(&mut self, args: &Fields) -> Result<(), Stop>
         requires consistent { IsConsistent self.old }
         requires machine { IsGood (job_held self.old).shape }
-        ensures taken { (built : Bool) → OnOk result (IsTaken built InitWord args.now self.old self.new) }
-        ensures stopped { (built : Bool) → IfErr result (Stops (behind_fault built (job_held self.old) InitWord args.now)) }
+        ensures taken { OnOk result (IsTaken InitWord args.now self.old self.new) }
+        ensures stopped { IfErr result (Stops (behind_fault (job_held self.old) InitWord args.now)) }
     {
         let row = match read_fields(&[Kind::Number, Kind::Bytes], args) {
             Ok(row) => row,

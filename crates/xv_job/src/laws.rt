@@ -1,24 +1,18 @@
 //! The laws of jobs and their texts, each as the contract of a function that does nothing.
 
-ghost use Rattle.std.specs.Prelude.{◌≡◌, ◌++◌, ℕ, List, Bool, true, false, None};
+ghost use Rattle.std.specs.Prelude.{◌≡◌, ◌++◌, ℕ, List, None};
 ghost use Rattle.xv_job.specs.Written.{Written, IsGoodWritten};
-ghost use Rattle.xv_job.specs.Built.{IsBuilt};
 ghost use Rattle.xv_job.specs.JobText.{job_text};
 ghost use Rattle.xv_job.specs.Texts.{text_fault, job_said, SaysJob, IsReadBack};
 
 /// The text of a good job is read without a fault, as that job, whatever follows it.
 pub fn jobs_are_read_back()
-    ensures { (w : Written) (rest : List ℕ) → IsGoodWritten w → IsReadBack false w rest }
-{}
-
-/// So is that of a job that is built, where what is not built is refused.
-pub fn built_jobs_are_read_back()
-    ensures { (w : Written) (rest : List ℕ) → IsGoodWritten w → IsBuilt w → IsReadBack true w rest }
+    ensures { (w : Written) (rest : List ℕ) → IsGoodWritten w → IsReadBack w rest }
 {}
 
 /// A text without a fault begins with the text of the job that it says, and this job is good.
 pub fn texts_say_jobs()
-    ensures { (text : List ℕ) → text_fault false text ≡ None → SaysJob (job_said false text) text }
+    ensures { (text : List ℕ) → text_fault text ≡ None → SaysJob (job_said text) text }
 {}
 
 /// No text of a job begins with the text of another.

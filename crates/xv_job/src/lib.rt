@@ -3,7 +3,8 @@
 // Contracts see a `Job` as the record `Written`: its machine, its limits and, for each guest, the operations that its
 // trace has as they are written; `job_of` gives the job that the machine runs, with unit operations. The layer above may
 // rely on this: every job keeps the limits of a job, and its operations may act. What is read from a text is the job
-// whose text begins it, and the text of each job that is built is read as that job; else the first faulty line is told.
+// whose text begins it, and the text of each job is read as that job, in either job format; else the first faulty line
+// is told.
 
 #![tactic(auto)]
 
@@ -21,9 +22,7 @@ mod traces;
 mod word;
 
 pub use job::Job;
-pub use laws::{
-    built_jobs_are_read_back, jobs_are_read_back, texts_begin_with_one_job, texts_say_jobs,
-};
+pub use laws::{jobs_are_read_back, texts_begin_with_one_job, texts_say_jobs};
 pub use print::print_job;
 pub use reading::{Place, read_job};
 pub use word::{Call, Word};

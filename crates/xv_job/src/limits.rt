@@ -1,10 +1,9 @@
 //! The lines of one number: the limits, the group and the cancel number.
 
-ghost use Rattle.std.specs.Prelude.{◌≡◌, ◌≤◌, ◌<◌, ◌^◌, Bool, Some, None, true, IfOk, IfErr, OnOk};
+ghost use Rattle.std.specs.Prelude.{◌≡◌, ◌≤◌, ◌<◌, ◌^◌, Some, None, true, IfOk, IfErr, OnOk};
 ghost use Rattle.xv_text.specs.Fields.{values, number_at};
 ghost use Rattle.xv_job.specs.Words.{kinds};
 ghost use Rattle.xv_job.specs.Draft.{outside, limit_fault, with_number, is_limit};
-ghost use Rattle.xv_job.specs.Built.{is_unbuilt_number};
 ghost use Rattle.xv_job.specs.Held.{job_held, IsConsistent, IsTaken, Stops, behind_fault};
 
 use crate::held::{Held, Stop};
@@ -83,11 +82,11 @@ impl Held {
     }
 
     /// Reads the number of a limit.
-    pub(crate) fn take_limit(&mut self, word: Word, args: &Fields, built: bool) -> Result<(), Stop>
+    pub(crate) fn take_limit(&mut self, word: Word, args: &Fields) -> Result<(), Stop>
         requires consistent { IsConsistent self.old }
         requires limit { is_limit word ≡ true }
-        ensures taken { OnOk result (IsTaken built word args.now self.old self.new) }
-        ensures stopped { IfErr result (Stops (behind_fault built (job_held self.old) word args.now)) }
+        ensures taken { OnOk result (IsTaken word args.now self.old self.new) }
+        ensures stopped { IfErr result (Stops (behind_fault (job_held self.old) word args.now)) }
     {
         let row = match read_fields(&[Kind::Number], args) {
             Ok(row) => row,
@@ -97,31 +96,7 @@ impl Held {
         if let Some(why) = self.limit_fault(word, n) {
             return Err(Stop::Refused(why));
         }
-        if built && is_unbuilt(word, n) {
-            return Err(Stop::Refused(LineWhy::Unbuilt));
-        }
         self.set_limit(word, n);
         Ok(())
-    }
-}
-
-/// Whether the number of a limit says what is not built.
-fn is_unbuilt(word: Word, n: u32) -> bool
-    ensures { result ≡ is_unbuilt_number word n }
-{
-    match word {
-        Word::Streams | Word::Region | Word::Rounds => n > 1,
-        Word::Dirty => n > 0,
-        Word::Group | Word::Cancel => true,
-        Word::Job
-        | Word::Pages
-        | Word::Disk
-        | Word::Credit
-        | Word::Outbox
-        | Word::Fault
-        | Word::Init
-        | Word::Guest
-        | Word::Operation(_)
-        | Word::End => false,
     }
 }

@@ -1,6 +1,6 @@
 //! The lines of the job format, the pages and the disks.
 
-ghost use Rattle.std.specs.Prelude.{◌≡◌, ◌≤◌, ◌<◌, ◌^◌, ◌++◌, Bool, [], ◌∷◌, length, Some, None, IfOk, IfErr, OnOk, IfSome, IfNone, if◌then◌else◌, codes};
+ghost use Rattle.std.specs.Prelude.{◌≡◌, ◌≤◌, ◌<◌, ◌^◌, ◌++◌, [], ◌∷◌, length, Some, None, IfOk, IfErr, OnOk, IfSome, IfNone, if◌then◌else◌, codes};
 ghost use Rattle.xv_base.specs.Units.{shape_of};
 ghost use Rattle.xv_base.specs.Layout.{IsGood, layout_fault};
 ghost use Rattle.xv_base.specs.declared.text.LineWhy.TheVariants.{BadWord};
@@ -65,28 +65,25 @@ fn pages_of(pages: u32, size: u32) -> Result<Layout, LineWhy>
 
 impl Held {
     /// Reads the job format.
-    pub(crate) fn take_format(&mut self, args: &Fields, built: bool) -> Result<(), Stop>
+    pub(crate) fn take_format(&mut self, args: &Fields) -> Result<(), Stop>
         requires consistent { IsConsistent self.old }
-        ensures taken { OnOk result (IsTaken built JobWord args.now self.old self.new) }
-        ensures stopped { IfErr result (Stops (behind_fault built (job_held self.old) JobWord args.now)) }
+        ensures taken { OnOk result (IsTaken JobWord args.now self.old self.new) }
+        ensures stopped { IfErr result (Stops (behind_fault (job_held self.old) JobWord args.now)) }
     {
         let Some(format) = format_of(args) else {
             return Err(Stop::Refused(LineWhy::BadWord));
         };
-        if built && format == 2 {
-            return Err(Stop::Refused(LineWhy::Unbuilt));
-        }
         self.format = format;
         Ok(())
     }
 
     /// Reads the pages.
-    pub(crate) fn take_pages(&mut self, args: &Fields, built: bool) -> Result<(), Stop>
+    pub(crate) fn take_pages(&mut self, args: &Fields) -> Result<(), Stop>
         requires consistent { IsConsistent self.old }
         requires no_disks { self.old.disks.items ≡ [] }
         requires no_traces { self.old.traces.items ≡ [] }
-        ensures taken { OnOk result (IsTaken built Pages args.now self.old self.new) }
-        ensures stopped { IfErr result (Stops (behind_fault built (job_held self.old) Pages args.now)) }
+        ensures taken { OnOk result (IsTaken Pages args.now self.old self.new) }
+        ensures stopped { IfErr result (Stops (behind_fault (job_held self.old) Pages args.now)) }
     {
         let row = match read_fields(&[Kind::Number, Kind::Number], args) {
             Ok(row) => row,
@@ -105,8 +102,8 @@ impl Held {
         requires consistent { IsConsistent self.old }
         requires machine { IsGood (job_held self.old).shape }
         requires no_traces { self.old.traces.items ≡ [] }
-        ensures taken { (built : Bool) → OnOk result (IsTaken built Disk args.now self.old self.new) }
-        ensures stopped { (built : Bool) → IfErr result (Stops (behind_fault built (job_held self.old) Disk args.now)) }
+        ensures taken { OnOk result (IsTaken Disk args.now self.old self.new) }
+        ensures stopped { IfErr result (Stops (behind_fault (job_held self.old) Disk args.now)) }
     {
         let row = match read_fields(&[Kind::Number, Kind::Number], args) {
             Ok(row) => row,

@@ -1,6 +1,6 @@
 //! The lines of planned faults.
 
-ghost use Rattle.std.specs.Prelude.{◌≡◌, ◌≤◌, ◌<◌, ◌^◌, Bool, Some, None, true, false, IfOk, IfErr, IfSome, IfNone, OnOk};
+ghost use Rattle.std.specs.Prelude.{◌≡◌, ◌≤◌, ◌<◌, ◌^◌, Some, None, true, false, IfOk, IfErr, IfSome, IfNone, OnOk};
 ghost use Rattle.xv_text.specs.Fields.{values, number_at, fields_fault};
 ghost use Rattle.xv_text.specs.Row.{IsRow};
 ghost use Rattle.xv_job.specs.declared.word.Word.TheVariants.{Fault as FaultWord};
@@ -57,10 +57,10 @@ fn fault_of(call: Call, row: &Row, streams: u8) -> Option<Fault>
 
 impl Held {
     /// Reads a planned fault.
-    pub(crate) fn take_fault(&mut self, args: &Fields, built: bool) -> Result<(), Stop>
+    pub(crate) fn take_fault(&mut self, args: &Fields) -> Result<(), Stop>
         requires consistent { IsConsistent self.old }
-        ensures taken { OnOk result (IsTaken built FaultWord args.now self.old self.new) }
-        ensures stopped { IfErr result (Stops (behind_fault built (job_held self.old) FaultWord args.now)) }
+        ensures taken { OnOk result (IsTaken FaultWord args.now self.old self.new) }
+        ensures stopped { IfErr result (Stops (behind_fault (job_held self.old) FaultWord args.now)) }
     {
         let Some((what, numbers)) = args.split_first() else {
             return Err(Stop::Refused(LineWhy::BadWord));
@@ -78,9 +78,6 @@ impl Held {
         let Some(fault) = fault_of(call, &row, self.config.streams) else {
             return Err(Stop::Refused(LineWhy::Limit(16)));
         };
-        if built {
-            return Err(Stop::Refused(LineWhy::Unbuilt));
-        }
         match self.faults.push(fault) {
             Ok(()) => Ok(()),
             Err(_) => Err(Stop::NoMemory),

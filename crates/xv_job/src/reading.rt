@@ -4,7 +4,6 @@ ghost use Rattle.std.specs.Prelude.{◌≡◌, ◌≤◌, ◌+◌, ◌++◌, ℕ
 ghost use Rattle.xv_base.specs.declared.text.TextError.TheVariants.{Fault as FaultError};
 ghost use Rattle.xv_text.specs.Reading.{IfFault};
 ghost use Rattle.xv_job.specs.Written.{Written, IsGoodWritten, AreTraces};
-ghost use Rattle.xv_job.specs.Built.{IsBuilt};
 ghost use Rattle.xv_job.specs.JobText.{job_text, job_lines};
 ghost use Rattle.xv_job.specs.Held.{IsConsistent, job_held, shape_or_none};
 ghost use Rattle.xv_job.specs.Texts.{text_fault, job_said, UnlessNoMemory};
@@ -50,16 +49,18 @@ fn at_line(line: u32, why: LineWhy) -> TextError
     TextError::Fault(LineFault { line, why })
 }
 
-/// Reads the job that a text begins with, with or without the test for what is not built.
-/// Errors: the first fault of its lines, or want of memory.
-fn read(alloc: Global, text: &[u8], built: bool) -> Result<(Job, Place), TextError>
-    ensures no_fault { IfOk result (λ found. text_fault built text.now ≡ None) }
+/// Reads the job that a text begins with, of either job format; anything may follow its line `end`. It reads the text
+/// once, and takes memory for what the job holds alone.
+/// Errors: the first fault of the job's lines, or want of memory.
+pub fn read_job(alloc: Global, text: &[u8]) -> Result<(Job, Place), TextError>
+    ensures no_fault { IfOk result (λ found. text_fault text.now ≡ None) }
     ensures front { IfOk result (λ found. take found.1.byte text.now ≡ job_text found.0) }
     ensures within { IfOk result (λ found. found.1.byte ≤ length text.now) }
     ensures line { IfOk result (λ found. found.1.line ≡ length (job_lines found.0) + 1) }
     ensures good { IfOk result (λ found. IsGoodWritten found.0) }
-    ensures said { IfOk result (λ found. found.0 ≡ job_said built text.now) }
-    ensures fault { IfFault result (λ fault. text_fault built text.now ≡ Some fault) }
+    ensures said { IfOk result (λ found. found.0 ≡ job_said text.now) }
+    ensures only { (w : Written) (rest : List ℕ) → IsGoodWritten w → text.now ≡ job_text w ++ rest → UnlessNoMemory result (λ found. found.0 ≡ w) }
+    ensures fault { IfFault result (λ fault. text_fault text.now ≡ Some fault) }
 {
     let mut held = Held::new(alloc);
     let mut rest = text;
@@ -68,7 +69,7 @@ fn read(alloc: Global, text: &[u8], built: bool) -> Result<(Job, Place), TextErr
         let Some((here, after)) = next_line(rest) else {
             return Err(at_line(line, LineWhy::Unended));
         };
-        match held.read_line(alloc, here, built) {
+        match held.read_line(alloc, here) {
             Ok(()) => {}
             Err(Stop::Refused(why)) => return Err(at_line(line, why)),
             Err(Stop::NoMemory) => return Err(TextError::NoMemory),
@@ -78,30 +79,4 @@ fn read(alloc: Global, text: &[u8], built: bool) -> Result<(Job, Place), TextErr
     }
     let byte = text.len() - rest.len();
     Ok((held.into_job(), Place { byte, line }))
-}
-
-/// Reads the job that a text begins with; anything may follow its line `end`. It reads the text once, and takes
-/// memory for what the job holds alone.
-/// Errors: the first fault of the job's lines, where a line without another fault is refused as not built if it says
-/// what is not; or want of memory.
-pub fn read_job(alloc: Global, text: &[u8]) -> Result<(Job, Place), TextError>
-    ensures no_fault { IfOk result (λ found. text_fault true text.now ≡ None) }
-    ensures front { IfOk result (λ found. take found.1.byte text.now ≡ job_text found.0) }
-    ensures within { IfOk result (λ found. found.1.byte ≤ length text.now) }
-    ensures line { IfOk result (λ found. found.1.line ≡ length (job_lines found.0) + 1) }
-    ensures good { IfOk result (λ found. IsGoodWritten found.0) }
-    ensures built { IfOk result (λ found. IsBuilt found.0) }
-    ensures only { (w : Written) (rest : List ℕ) → IsGoodWritten w → IsBuilt w → text.now ≡ job_text w ++ rest → UnlessNoMemory result (λ found. found.0 ≡ w) }
-    ensures fault { IfFault result (λ fault. text_fault true text.now ≡ Some fault) }
-{
-    read(alloc, text, true)
-}
-
-/// Reads the job that a text begins with as `read_job` does, also where it says what is not built.
-#[cfg(test)]
-pub(crate) fn read_any(alloc: Global, text: &[u8]) -> Result<(Job, Place), TextError>
-    ensures front { IfOk result (λ found. take found.1.byte text.now ≡ job_text found.0) }
-    ensures fault { IfFault result (λ fault. text_fault false text.now ≡ Some fault) }
-{
-    read(alloc, text, false)
 }

@@ -1,12 +1,11 @@
 //! The lines of guests and of their operations, and the end.
 
-ghost use Rattle.std.specs.Prelude.{◌≡◌, ◌≤◌, ◌<◌, ◌+◌, ◌^◌, ◌++◌, ◌∷◌, [], Bool, length, sum_by, IfErr, OnOk};
+ghost use Rattle.std.specs.Prelude.{◌≡◌, ◌≤◌, ◌<◌, ◌+◌, ◌^◌, ◌++◌, ◌∷◌, [], length, sum_by, IfErr, OnOk};
 ghost use Rattle.xv_base.specs.Layout.{IsGood};
 ghost use Rattle.xv_trace.specs.Operations.{op_count, count_all};
 ghost use Rattle.xv_trace.specs.OpText.{IsGoodOp};
 ghost use Rattle.xv_job.specs.declared.word.Word.TheVariants.{Guest, End, Operation};
 ghost use Rattle.xv_job.specs.Draft.{with_op};
-ghost use Rattle.xv_job.specs.Built.{is_unbuilt_verb};
 ghost use Rattle.xv_job.specs.Held.{job_held, IsConsistent, IsTaken, Stops, behind_fault};
 ghost use Rattle.xv_job.specs.Written.{AreTraces, ops_held};
 
@@ -19,16 +18,6 @@ use xv_trace::{Op, Trace, Verb, read_op};
 
 /// How many unit operations a job may have.
 const MOST_OPERATIONS: u32 = 1 << 20;
-
-/// Whether the operations of a word are not built.
-fn is_unbuilt(verb: Verb) -> bool
-    ensures { result ≡ is_unbuilt_verb verb }
-{
-    match verb {
-        Verb::Store | Verb::Load => true,
-        Verb::Write | Verb::Fetch => false,
-    }
-}
 
 /// Appends an operation to the last trace.
 fn push_op(layout: &Layout, traces: &mut Vec<Trace>, op: Op) -> Result<(), NoMemory>
@@ -46,25 +35,17 @@ fn push_op(layout: &Layout, traces: &mut Vec<Trace>, op: Op) -> Result<(), NoMem
 
 impl Held {
     /// Begins the trace of the next guest.
-    pub(crate) fn take_guest(
-        &mut self,
-        alloc: Global,
-        args: &Fields,
-        built: bool,
-    ) -> Result<(), Stop>
+    pub(crate) fn take_guest(&mut self, alloc: Global, args: &Fields) -> Result<(), Stop>
         requires consistent { IsConsistent self.old }
         requires machine { IsGood (job_held self.old).shape }
-        ensures taken { OnOk result (IsTaken built Guest args.now self.old self.new) }
-        ensures stopped { IfErr result (Stops (behind_fault built (job_held self.old) Guest args.now)) }
+        ensures taken { OnOk result (IsTaken Guest args.now self.old self.new) }
+        ensures stopped { IfErr result (Stops (behind_fault (job_held self.old) Guest args.now)) }
     {
         if let Err(why) = read_fields(&[], args) {
             return Err(Stop::Refused(why));
         }
         if self.traces.len() >= 16 {
             return Err(Stop::Refused(LineWhy::Limit(17)));
-        }
-        if built && !self.traces.is_empty() {
-            return Err(Stop::Refused(LineWhy::Unbuilt));
         }
         let trace = Trace::new(alloc, known(&self.layout));
         match self.traces.push(trace) {
@@ -74,27 +55,19 @@ impl Held {
     }
 
     /// Reads an operation of the last guest.
-    pub(crate) fn take_operation(
-        &mut self,
-        verb: Verb,
-        args: &Fields,
-        built: bool,
-    ) -> Result<(), Stop>
+    pub(crate) fn take_operation(&mut self, verb: Verb, args: &Fields) -> Result<(), Stop>
         requires consistent { IsConsistent self.old }
         requires machine { IsGood (job_held self.old).shape }
         requires some { 1 ≤ length self.old.traces.items }
         requires few { self.old.operations ≤ 2 ^ 20 }
-        ensures taken { OnOk result (IsTaken built (Operation verb) args.now self.old self.new) }
-        ensures stopped { IfErr result (Stops (behind_fault built (job_held self.old) (Operation verb) args.now)) }
+        ensures taken { OnOk result (IsTaken (Operation verb) args.now self.old self.new) }
+        ensures stopped { IfErr result (Stops (behind_fault (job_held self.old) (Operation verb) args.now)) }
     {
         let layout = known(&self.layout);
         let op = match read_op(&layout, MOST_OPERATIONS - self.operations, verb, args) {
             Ok(op) => op,
             Err(why) => return Err(Stop::Refused(why)),
         };
-        if built && is_unbuilt(verb) {
-            return Err(Stop::Refused(LineWhy::Unbuilt));
-        }
         match push_op(&layout, &mut self.traces, op) {
             Ok(()) => {
                 self.operations += op.count();
@@ -107,8 +80,8 @@ impl Held {
     /// Reads the end.
     pub(crate) fn take_end(&mut self, args: &Fields) -> Result<(), Stop>
         requires consistent { IsConsistent self.old }
-        ensures taken { (built : Bool) → OnOk result (IsTaken built End args.now self.old self.new) }
-        ensures stopped { (built : Bool) → IfErr result (Stops (behind_fault built (job_held self.old) End args.now)) }
+        ensures taken { OnOk result (IsTaken End args.now self.old self.new) }
+        ensures stopped { IfErr result (Stops (behind_fault (job_held self.old) End args.now)) }
     {
         if let Err(why) = read_fields(&[], args) {
             return Err(Stop::Refused(why));

@@ -1,14 +1,13 @@
 -- A text without a fault is the text of a script of the job, and such a text is read as this script.
-use Rattle.std.proofs.Common.{◌≡◌, ◌≢◌, ℕ, ◌+◌, ◌<◌, ◌&&◌, ◌||◌, not, Bool, true, false, List, [], ◌∷◌, ◌++◌, codes, Option, Some, None, Result, Ok, Err, IfOk, refl, sym, ap, ◌∙◌, subst, arith, append_assoc, nat_le}
+use Rattle.std.proofs.Common.{◌≡◌, ◌≢◌, ℕ, ◌+◌, ◌<◌, Bool, true, false, List, [], ◌∷◌, ◌++◌, codes, Option, Some, None, Result, Ok, Err, IfOk, refl, sym, ap, ◌∙◌, subst, arith, append_assoc, nat_le}
 use Rattle.std.specs.List.{list_all}
-use Rattle.std.proofs.lemmas.Bool.{and_from, and_parts, or_parts, leb-false, lt-leb}
+use Rattle.std.proofs.lemmas.Bool.{and_from, and_parts, leb-false, lt-leb}
 use Rattle.std.proofs.lemmas.List.{append-nil}
-use Rattle.xv_base.specs.declared.event.Event.{Event}
 use Rattle.xv_base.specs.declared.text.LineFault.{LineFault}
 use Rattle.xv_base.specs.declared.text.TextError.{TextError}
 use Rattle.xv_base.specs.declared.text.TextError.TheVariants.{Fault, NoMemory}
 use Rattle.xv_base.specs.declared.text.LineWhy.{LineWhy}
-use Rattle.xv_base.specs.declared.text.LineWhy.TheVariants.{BadWord, OutOfRange, Unbuilt}
+use Rattle.xv_base.specs.declared.text.LineWhy.TheVariants.{BadWord, OutOfRange}
 use Rattle.xv_text.specs.Lines.{has_rest, lines_of, line, text_of}
 use Rattle.xv_text.specs.Fields.{fields_fault, fault_if}
 use Rattle.xv_text.specs.Reading.{first_fault, last_state, at_line_or}
@@ -16,13 +15,11 @@ use Rattle.xv_text.proofs.Rows.{none_of_both}
 use Rattle.xv_text.proofs.Apart.{ArePlainLines, lines_of-text_of, has_rest-text_of, text_of-lines_of}
 use Rattle.xv_text.specs.Reading.{IfFault}
 use Rattle.xv_model.specs.Job.{Job}
-use Rattle.xv_job.specs.BuiltEvents.{is_built_event, is_guest, is_begin, are_built}
-use Rattle.xv_script.specs.Lines.{line_words, script_text, events_of}
+use Rattle.xv_script.specs.Lines.{line_words, script_text}
 use Rattle.xv_script.specs.Words.{spelling, word_of, named, kinds, line_said}
-use Rattle.xv_script.specs.Script.{first_script, counts_of, count_of, number_said, range_fault, is_unbuilt, word_fault, line_fault, line_by, line_in, with_line, script_reader, text_fault, text_lines, is_in, is_step, IsScriptOf}
+use Rattle.xv_script.specs.Script.{first_script, counts_of, count_of, number_said, range_fault, word_fault, line_fault, line_by, line_in, with_line, script_reader, text_fault, text_lines, is_in, IsScriptOf}
 use Rattle.xv_script.specs.declared.counts.Counts.{Counts}
 use Rattle.xv_script.specs.declared.line.Line.{Line}
-use Rattle.xv_script.specs.declared.line.Line.TheVariants.{Step, Ask}
 use Rattle.xv_script.specs.declared.word.Word.{Word}
 use Rattle.xv_script.specs.declared.word.Word.TheVariants.{Stop as StopWord}
 use Rattle.xv_script.proofs.Progress.{so_far, stopped}
@@ -33,106 +30,83 @@ no_fault_if : (there : Bool) (why : LineWhy) → fault_if there why ≡ None →
 no_fault_if true why h = absurd (cc)
 no_fault_if false why h = refl
 
--- a line without a fault: it is the text of what it says, which is in the job and is built
-record IsLine (job : Job) (began : Bool) (l : List (List ℕ)) (said : Option Line) : Type 0 where
+-- a line without a fault: it is the text of what it says, which is in the job
+record IsLine (job : Job) (l : List (List ℕ)) (said : Option Line) : Type 0 where
   text : line l ≡ text_said said
   in_job : said_in job said ≡ true
-  built : is_unbuilt began said ≡ false
 
-word_sound : (job : Job) (began : Bool) (field : List ℕ) (word : Word) (args : List (List ℕ)) → word_of field ≡ Some word
-    → word_fault (counts_of job) began (Some word) args ≡ None → IsLine job began (field ∷ args) (line_said word (number_said word args))
-word_sound job began field word args is h =
-    let a = none_of_both (fields_fault (kinds (named word)) args) _ h in
-    let b = none_of_both (range_fault (counts_of job) word args) _ a.1 in
+word_sound : (job : Job) (field : List ℕ) (word : Word) (args : List (List ℕ)) → word_of field ≡ Some word
+    → word_fault (counts_of job) (Some word) args ≡ None → IsLine job (field ∷ args) (line_said word (number_said word args))
+word_sound job field word args is h =
+    let a = none_of_both (fields_fault (kinds (named word)) args) (range_fault (counts_of job) word args) h in
     let n = number_said word args in
-    let there : n < count_of (counts_of job) (named word) = leb-false (count_of (counts_of job) (named word)) n (no_fault_if _ OutOfRange b.0) in
+    let there : n < count_of (counts_of job) (named word) = leb-false (count_of (counts_of job) (named word)) n (no_fault_if _ OutOfRange a.1) in
     record {
       text = ap (λ w. line (w ∷ args)) (spelled field word is) ∙ ap (λ xs. line (spelling word ∷ xs)) (behind_read (named word) args a.0) ∙ line-fields_said word n;
       in_job = said_in-job job word n there;
-      built = no_fault_if (is_unbuilt began (line_said word n)) Unbuilt b.1;
     }
 
-line_sound_by : (job : Job) (began : Bool) (field : List ℕ) (args : List (List ℕ)) (word : Option Word) → word_of field ≡ word
-    → word_fault (counts_of job) began word args ≡ None → IsLine job began (field ∷ args) (line_by word args)
-line_sound_by job began field args None is h = absurd (cc)
-line_sound_by job began field args (Some word) is h = word_sound job began field word args is h
+line_sound_by : (job : Job) (field : List ℕ) (args : List (List ℕ)) (word : Option Word) → word_of field ≡ word
+    → word_fault (counts_of job) word args ≡ None → IsLine job (field ∷ args) (line_by word args)
+line_sound_by job field args None is h = absurd (cc)
+line_sound_by job field args (Some word) is h = word_sound job field word args is h
 
 no_word : word_of [] ≡ None
 unfolding word_of
 no_word = refl
 
-line_sound : (job : Job) (began : Bool) (l : List (List ℕ)) → line_fault (counts_of job) began l ≡ None → IsLine job began l (line_in l)
-line_sound job began [] h =
-    let P : Option Word → Type 0 = λ w. word_fault (counts_of job) began w [] ≡ None in
+line_sound : (job : Job) (l : List (List ℕ)) → line_fault (counts_of job) l ≡ None → IsLine job l (line_in l)
+line_sound job [] h =
+    let P : Option Word → Type 0 = λ w. word_fault (counts_of job) w [] ≡ None in
     let bad : Some BadWord ≡ None = subst P no_word h in
     absurd (cc)
-line_sound job began (field ∷ args) h = line_sound_by job began field args (word_of field) refl h
+line_sound job (field ∷ args) h = line_sound_by job field args (word_of field) refl h
 
 -- the lines that are left make the end of a script
-record IsEnd (job : Job) (began : Bool) (ls : List (List (List ℕ))) (rest : Bool) (more : List Line) : Type 0 where
+record IsEnd (job : Job) (ls : List (List (List ℕ))) (rest : Bool) (more : List Line) : Type 0 where
   text : text_of ls ≡ script_text more
   over : rest ≡ false
   in_job : list_all (is_in job) more ≡ true
-  steps : list_all is_step more ≡ true
-  built : are_built began (events_of more) ≡ true
 
-record Ends (job : Job) (lines : List Line) (began : Bool) (ls : List (List (List ℕ))) (rest : Bool) : Type 0 where
+record Ends (job : Job) (lines : List Line) (ls : List (List (List ℕ))) (rest : Bool) : Type 0 where
   more : List Line
-  lines_are : (last_state (script_reader job) (so_far lines began) ls).lines ≡ lines ++ more
-  is_end : IsEnd job began ls rest more
+  lines_are : (last_state (script_reader job) (so_far lines) ls).lines ≡ lines ++ more
+  is_end : IsEnd job ls rest more
 
-ends_here : (job : Job) (lines : List Line) (began : Bool) (n : ℕ) (ls : List (List (List ℕ))) (rest : Bool) → first_fault (script_reader job) true (stopped lines began) n ls rest ≡ None → (ls ≡ []) × (rest ≡ false)
-ends_here job lines began n [] false h = (refl, refl)
-ends_here job lines began n [] true h = absurd (cc)
-ends_here job lines began n (l ∷ ls) rest h = absurd (cc)
+ends_here : (job : Job) (lines : List Line) (n : ℕ) (ls : List (List (List ℕ))) (rest : Bool) → first_fault (script_reader job) true (stopped lines) n ls rest ≡ None → (ls ≡ []) × (rest ≡ false)
+ends_here job lines n [] false h = (refl, refl)
+ends_here job lines n [] true h = absurd (cc)
+ends_here job lines n (l ∷ ls) rest h = absurd (cc)
 
-stop_ends : (job : Job) (lines : List Line) (began : Bool) (n : ℕ) (l : List (List ℕ)) (ls : List (List (List ℕ))) (rest : Bool) → line l ≡ codes "stop" ++ 10 ∷ [] → line_in l ≡ None
-    → (ls ≡ []) × (rest ≡ false) → Ends job lines began (l ∷ ls) rest
-stop_ends job lines began n l ls rest e said over = record {
+stop_ends : (job : Job) (lines : List Line) (n : ℕ) (l : List (List ℕ)) (ls : List (List (List ℕ))) (rest : Bool) → line l ≡ codes "stop" ++ 10 ∷ [] → line_in l ≡ None
+    → (ls ≡ []) × (rest ≡ false) → Ends job lines (l ∷ ls) rest
+stop_ends job lines n l ls rest e said over = record {
   more = [];
   lines_are =
-      ap (λ (found : Option Line). (last_state (script_reader job) (with_line (so_far lines began) found) ls).lines) said
-      ∙ ap (λ (xs : List (List (List ℕ))). (last_state (script_reader job) (stopped lines began) xs).lines) over.0
+      ap (λ (found : Option Line). (last_state (script_reader job) (with_line (so_far lines) found) ls).lines) said
+      ∙ ap (λ (xs : List (List (List ℕ))). (last_state (script_reader job) (stopped lines) xs).lines) over.0
       ∙ sym (append-nil lines);
   is_end = record {
     text = ap (λ (xs : List (List (List ℕ))). line l ++ text_of xs) over.0 ∙ append-nil (line l) ∙ e;
     over = over.1;
     in_job = refl;
-    steps = refl;
-    built = refl;
   };
 }
 
-not_of : (a : Bool) → not a ≡ false → a ≡ true
-not_of true h = refl
-not_of false h = absurd (cc)
-
-to_not : (a : Bool) → a ≡ false → not a ≡ true
-to_not true h = absurd (cc)
-to_not false h = refl
-
-step_built : (began : Bool) (e : Event) (es : List Event) → is_unbuilt began (Some (Step e)) ≡ false → are_built (began || is_begin e) es ≡ true → are_built began (e ∷ es) ≡ true
-step_built began e es h k =
-    let a = or_parts (not (is_built_event e)) (began && is_guest e) h in
-    and_from (is_built_event e && not (began && is_guest e)) (are_built (began || is_begin e) es)
-    (and_from (is_built_event e) (not (began && is_guest e)) (not_of (is_built_event e) a.0) (to_not (began && is_guest e) a.1)) k
-
-step_ends : (job : Job) (lines : List Line) (began : Bool) (l : List (List ℕ)) (ls : List (List (List ℕ))) (rest : Bool) (e : Event) → line l ≡ text_said (Some (Step e)) → line_in l ≡ Some (Step e)
-    → is_in job (Step e) ≡ true → is_unbuilt began (Some (Step e)) ≡ false → Ends job (lines ++ Step e ∷ []) (began || is_begin e) ls rest → Ends job lines began (l ∷ ls) rest
-step_ends job lines began l ls rest e text said there built k = record {
-  more = Step e ∷ k.more;
+line_ends : (job : Job) (lines : List Line) (l : List (List ℕ)) (ls : List (List (List ℕ))) (rest : Bool) (x : Line) → line l ≡ text_said (Some x) → line_in l ≡ Some x
+    → is_in job x ≡ true → Ends job (lines ++ x ∷ []) ls rest → Ends job lines (l ∷ ls) rest
+line_ends job lines l ls rest x text said there k = record {
+  more = x ∷ k.more;
   lines_are =
-      ap (λ (found : Option Line). (last_state (script_reader job) (with_line (so_far lines began) found) ls).lines) said
-      ∙ k.lines_are ∙ append_assoc lines (Step e ∷ []) k.more;
+      ap (λ (found : Option Line). (last_state (script_reader job) (with_line (so_far lines) found) ls).lines) said
+      ∙ k.lines_are ∙ append_assoc lines (x ∷ []) k.more;
   is_end = record {
     text =
         ap (λ (xs : List ℕ). xs ++ text_of ls) text
-        ∙ ap (λ (xs : List ℕ). text_said (Some (Step e)) ++ xs) k.is_end.text
-        ∙ append_assoc (line_words (Step e)) (10 ∷ []) (script_text k.more);
+        ∙ ap (λ (xs : List ℕ). text_said (Some x) ++ xs) k.is_end.text
+        ∙ append_assoc (line_words x) (10 ∷ []) (script_text k.more);
     over = k.is_end.over;
-    in_job = and_from (is_in job (Step e)) (list_all (is_in job) k.more) there k.is_end.in_job;
-    steps = k.is_end.steps;
-    built = step_built began e (events_of k.more) built k.is_end.built;
+    in_job = and_from (is_in job x) (list_all (is_in job) k.more) there k.is_end.in_job;
   };
 }
 
@@ -140,20 +114,18 @@ later_none : (n : ℕ) (why : Option LineWhy) (later : Option LineFault) → at_
 later_none n None later h = (refl, h)
 later_none n (Some why) later h = absurd (cc)
 
-by_line : (job : Job) (lines : List Line) (began : Bool) (n : ℕ) (l : List (List ℕ)) (ls : List (List (List ℕ))) (rest : Bool) (said : Option Line) → line_in l ≡ said → IsLine job began l said
-    → first_fault (script_reader job) true (with_line (so_far lines began) said) (n + 1) ls rest ≡ None
-    → ((more : List Line) (b : Bool) → first_fault (script_reader job) true (so_far more b) (n + 1) ls rest ≡ None → Ends job more b ls rest)
-    → Ends job lines began (l ∷ ls) rest
-by_line job lines began n l ls rest None is h later go_on = stop_ends job lines began n l ls rest h.text is (ends_here job lines began (n + 1) ls rest later)
-by_line job lines began n l ls rest (Some (Ask unit)) is h later go_on = let bad : true ≡ false = h.built in absurd (cc)
-by_line job lines began n l ls rest (Some (Step e)) is h later go_on =
-    step_ends job lines began l ls rest e h.text is h.in_job h.built (go_on (lines ++ Step e ∷ []) (began || is_begin e) later)
+by_line : (job : Job) (lines : List Line) (n : ℕ) (l : List (List ℕ)) (ls : List (List (List ℕ))) (rest : Bool) (said : Option Line) → line_in l ≡ said → IsLine job l said
+    → first_fault (script_reader job) true (with_line (so_far lines) said) (n + 1) ls rest ≡ None
+    → ((more : List Line) → first_fault (script_reader job) true (so_far more) (n + 1) ls rest ≡ None → Ends job more ls rest)
+    → Ends job lines (l ∷ ls) rest
+by_line job lines n l ls rest None is h later go_on = stop_ends job lines n l ls rest h.text is (ends_here job lines (n + 1) ls rest later)
+by_line job lines n l ls rest (Some x) is h later go_on = line_ends job lines l ls rest x h.text is h.in_job (go_on (lines ++ x ∷ []) later)
 
-sound : (job : Job) (ls : List (List (List ℕ))) (lines : List Line) (began : Bool) (n : ℕ) (rest : Bool) → first_fault (script_reader job) true (so_far lines began) n ls rest ≡ None → Ends job lines began ls rest
-sound job [] lines began n rest h = absurd (cc)
-sound job (l ∷ ls) lines began n rest h =
-    let a = later_none n (line_fault (counts_of job) began l) (first_fault (script_reader job) true (with_line (so_far lines began) (line_in l)) (n + 1) ls rest) h in
-    by_line job lines began n l ls rest (line_in l) refl (line_sound job began l a.0) a.1 (λ more b k. sound job ls more b (n + 1) rest k)
+sound : (job : Job) (ls : List (List (List ℕ))) (lines : List Line) (n : ℕ) (rest : Bool) → first_fault (script_reader job) true (so_far lines) n ls rest ≡ None → Ends job lines ls rest
+sound job [] lines n rest h = absurd (cc)
+sound job (l ∷ ls) lines n rest h =
+    let a = later_none n (line_fault (counts_of job) l) (first_fault (script_reader job) true (with_line (so_far lines) (line_in l)) (n + 1) ls rest) h in
+    by_line job lines n l ls rest (line_in l) refl (line_sound job l a.0) a.1 (λ more k. sound job ls more (n + 1) rest k)
 
 -- a text without a fault
 pub record IsRead (job : Job) (text : List ℕ) (lines : List Line) : Type 0 where
@@ -162,12 +134,12 @@ pub record IsRead (job : Job) (text : List ℕ) (lines : List Line) : Type 0 whe
 
 pub text_is_script : (job : Job) (text : List ℕ) (first : ℕ) → text_fault (counts_of job) first text ≡ None → IsRead job text (text_lines (counts_of job) text)
 text_is_script job text first h =
-    let k = sound job (lines_of text) [] false first (has_rest text) h in
+    let k = sound job (lines_of text) [] first (has_rest text) h in
     let same : text_lines (counts_of job) text ≡ k.more = k.lines_are in
     let P : List Line → Type 0 = λ ls. IsRead job text ls in
     subst P (sym same) (record {
       spells = sym (text_of-lines_of text k.is_end.over) ∙ k.is_end.text;
-      script = record { in_job = k.is_end.in_job; steps = k.is_end.steps; built = k.is_end.built };
+      script = record { in_job = k.is_end.in_job };
     })
 
 -- the lines of a script, each as its fields
@@ -192,71 +164,55 @@ script_lines_plain job small (l ∷ ls) h =
     ((omega arith, fields_plain (counts_of job) (word_in l) (number_in l) small (line_there job l a.0)), script_lines_plain job small ls a.1)
 
 -- the line of a word with the number of something that is there
-record IsGone (job : Job) (began : Bool) (l : List (List ℕ)) (said : Option Line) : Type 0 where
-  no_fault : line_fault (counts_of job) began l ≡ None
+record IsGone (job : Job) (l : List (List ℕ)) (said : Option Line) : Type 0 where
+  no_fault : line_fault (counts_of job) l ≡ None
   says : line_in l ≡ said
 
-said_well : (job : Job) → AreSmall (counts_of job) → (began : Bool) (word : Word) (n : ℕ) → n < count_of (counts_of job) (named word) → is_unbuilt began (line_said word n) ≡ false
-    → IsGone job began (fields_said word n) (line_said word n)
-said_well job small began word n there built =
+said_well : (job : Job) → AreSmall (counts_of job) → (word : Word) (n : ℕ) → n < count_of (counts_of job) (named word)
+    → IsGone job (fields_said word n) (line_said word n)
+said_well job small word n there =
     let b = behind_said (counts_of job) (named word) n small there in
     let says : number_said word (behind (named word) n) ≡ n = b.says in
     let not_past : nat_le (count_of (counts_of job) (named word)) n ≡ false = lt-leb _ n there in
-    let P : Option Word → Type 0 = λ w. word_fault (counts_of job) began w (behind (named word) n) ≡ None in
+    let P : Option Word → Type 0 = λ w. word_fault (counts_of job) w (behind (named word) n) ≡ None in
     record {
-      no_fault = subst P (sym (word_of-spelling word)) (rw (b.no_fault, says, not_past, built) refl);
+      no_fault = subst P (sym (word_of-spelling word)) (rw (b.no_fault, says, not_past) refl);
       says = ap (λ (w : Option Word). line_by w (behind (named word) n)) (word_of-spelling word) ∙ ap (line_said word) says;
     }
 
-record Goes (job : Job) (lines : List Line) (began : Bool) (n : ℕ) (ls : List (List (List ℕ))) (more : List Line) : Type 0 where
-  no_fault : first_fault (script_reader job) true (so_far lines began) n ls false ≡ None
-  lines_are : (last_state (script_reader job) (so_far lines began) ls).lines ≡ lines ++ more
+record Goes (job : Job) (lines : List Line) (n : ℕ) (ls : List (List (List ℕ))) (more : List Line) : Type 0 where
+  no_fault : first_fault (script_reader job) true (so_far lines) n ls false ≡ None
+  lines_are : (last_state (script_reader job) (so_far lines) ls).lines ≡ lines ++ more
 
-goes_by : (job : Job) (lines : List Line) (began : Bool) (n : ℕ) (l : List (List ℕ)) (ls : List (List (List ℕ))) (said : Option Line) → IsGone job began l said
-    → first_fault (script_reader job) true (so_far lines began) n (l ∷ ls) false ≡ first_fault (script_reader job) true (with_line (so_far lines began) said) (n + 1) ls false
-goes_by job lines began n l ls said g =
-    ap (λ (why : Option LineWhy). at_line_or n why (first_fault (script_reader job) true (with_line (so_far lines began) (line_in l)) (n + 1) ls false)) g.no_fault
-    ∙ ap (λ (found : Option Line). first_fault (script_reader job) true (with_line (so_far lines began) found) (n + 1) ls false) g.says
+goes_by : (job : Job) (lines : List Line) (n : ℕ) (l : List (List ℕ)) (ls : List (List (List ℕ))) (said : Option Line) → IsGone job l said
+    → first_fault (script_reader job) true (so_far lines) n (l ∷ ls) false ≡ first_fault (script_reader job) true (with_line (so_far lines) said) (n + 1) ls false
+goes_by job lines n l ls said g =
+    ap (λ (why : Option LineWhy). at_line_or n why (first_fault (script_reader job) true (with_line (so_far lines) (line_in l)) (n + 1) ls false)) g.no_fault
+    ∙ ap (λ (found : Option Line). first_fault (script_reader job) true (with_line (so_far lines) found) (n + 1) ls false) g.says
 
-built_step : (began : Bool) (e : Event) (es : List Event) → are_built began (e ∷ es) ≡ true → (is_unbuilt began (Some (Step e)) ≡ false) × (are_built (began || is_begin e) es ≡ true)
-built_step began e es h =
-    let a = and_parts (is_built_event e && not (began && is_guest e)) (are_built (began || is_begin e) es) h in
-    let b = and_parts (is_built_event e) (not (began && is_guest e)) a.0 in
-    (neither (is_built_event e) (began && is_guest e) b.0 b.1, a.1)
-  where
-    neither : (x y : Bool) → x ≡ true → not y ≡ true → (not x || y) ≡ false
-    neither true false h k = refl
-    neither true true h k = absurd (cc)
-    neither false y h k = absurd (cc)
-
-goes : (job : Job) → AreSmall (counts_of job) → (more lines : List Line) (began : Bool) (n : ℕ) → list_all (is_in job) more ≡ true → list_all is_step more ≡ true → are_built began (events_of more) ≡ true
-    → Goes job lines began n (script_lines more) more
-goes job small [] lines began n there steps built =
-    let g = said_well job small began StopWord 0 (omega arith) refl in
+goes : (job : Job) → AreSmall (counts_of job) → (more lines : List Line) (n : ℕ) → list_all (is_in job) more ≡ true → Goes job lines n (script_lines more) more
+goes job small [] lines n there =
+    let g = said_well job small StopWord 0 (omega arith) in
     record {
-      no_fault = goes_by job lines began n stop_line [] None g;
-      lines_are = ap (λ (found : Option Line). (with_line (so_far lines began) found).lines) g.says ∙ sym (append-nil lines);
+      no_fault = goes_by job lines n stop_line [] None g;
+      lines_are = ap (λ (found : Option Line). (with_line (so_far lines) found).lines) g.says ∙ sym (append-nil lines);
     }
-goes job small (Ask unit ∷ more) lines began n there steps built = let bad : false ≡ true = steps in absurd (cc)
-goes job small (Step e ∷ more) lines began n there steps built =
-    let a = and_parts (is_in job (Step e)) (list_all (is_in job) more) there in
-    let b = built_step began e (events_of more) built in
-    let said : line_said (word_in (Step e)) (number_in (Step e)) ≡ Some (Step e) = line_back (Step e) in
-    let P : Option Line → Type 0 = λ found. is_unbuilt began found ≡ false in
-    let Q : Option Line → Type 0 = λ found. IsGone job began (line_fields (Step e)) found in
-    let g = subst Q said (said_well job small began (word_in (Step e)) (number_in (Step e)) (line_there job (Step e) a.0) (subst P (sym said) b.0)) in
-    let k = goes job small more (lines ++ Step e ∷ []) (began || is_begin e) (n + 1) a.1 steps b.1 in
+goes job small (x ∷ more) lines n there =
+    let a = and_parts (is_in job x) (list_all (is_in job) more) there in
+    let P : Option Line → Type 0 = λ found. IsGone job (line_fields x) found in
+    let g = subst P (line_back x) (said_well job small (word_in x) (number_in x) (line_there job x a.0)) in
+    let k = goes job small more (lines ++ x ∷ []) (n + 1) a.1 in
     record {
-      no_fault = goes_by job lines began n (line_fields (Step e)) (script_lines more) (Some (Step e)) g ∙ k.no_fault;
+      no_fault = goes_by job lines n (line_fields x) (script_lines more) (Some x) g ∙ k.no_fault;
       lines_are =
-          ap (λ (found : Option Line). (last_state (script_reader job) (with_line (so_far lines began) found) (script_lines more)).lines) g.says
-          ∙ k.lines_are ∙ append_assoc lines (Step e ∷ []) more;
+          ap (λ (found : Option Line). (last_state (script_reader job) (with_line (so_far lines) found) (script_lines more)).lines) g.says
+          ∙ k.lines_are ∙ append_assoc lines (x ∷ []) more;
     }
 
 pub script_is_read : (job : Job) → AreSmall (counts_of job) → (text : List ℕ) (lines : List Line) (first : ℕ) → IsScriptOf job lines → text ≡ script_text lines
     → (text_fault (counts_of job) first text ≡ None) × (text_lines (counts_of job) text ≡ lines)
 script_is_read job small text lines first h is =
-    let g = goes job small lines [] false first h.in_job h.steps h.built in
+    let g = goes job small lines [] first h.in_job in
     let spelt : text ≡ text_of (script_lines lines) = is ∙ sym (text_of-script_lines lines) in
     let ls : lines_of text ≡ script_lines lines = ap lines_of spelt ∙ lines_of-text_of (script_lines lines) (script_lines_plain job small lines h.in_job) in
     let over : has_rest text ≡ false = ap has_rest spelt ∙ has_rest-text_of (script_lines lines) in (

@@ -1,17 +1,15 @@
 -- A script as far as its lines have been read; what is wrong with a line, and the script after it.
-use Rattle.std.specs.Prelude.{◌≡◌, ℕ, ◌&&◌, ◌||◌, not, nat_le, nat_lt, Bool, true, false, List, [], ◌∷◌, ◌++◌, length, Option, Some, None}
+use Rattle.std.specs.Prelude.{◌≡◌, ℕ, nat_le, nat_lt, Bool, true, false, List, [], ◌∷◌, ◌++◌, length, Option, Some, None}
 use Rattle.std.specs.List.{list_all}
 use Rattle.xv_base.specs.declared.text.LineFault.{LineFault}
 use Rattle.xv_base.specs.declared.text.LineWhy.{LineWhy}
-use Rattle.xv_base.specs.declared.text.LineWhy.TheVariants.{BadWord, OutOfRange, Unbuilt}
+use Rattle.xv_base.specs.declared.text.LineWhy.TheVariants.{BadWord, OutOfRange}
 use Rattle.xv_text.specs.Lines.{lines_of, has_rest}
 use Rattle.xv_text.specs.Fields.{values, number_at, fields_fault, or_else, fault_if}
 use Rattle.xv_text.specs.Reading.{Reader, first_fault, last_state}
 use Rattle.xv_trace.specs.OpText.{head, tail}
 use Rattle.xv_model.specs.Job.{Job, guest_count, unit_count}
 use Rattle.xv_model.specs.Wait.{fits}
-use Rattle.xv_job.specs.BuiltEvents.{is_built_event, is_guest, is_begin, are_built}
-use Rattle.xv_script.specs.Lines.{events_of}
 use Rattle.xv_script.specs.Words.{word_of, named, kinds, line_said}
 use Rattle.xv_script.specs.declared.counts.Counts.{Counts}
 use Rattle.xv_script.specs.declared.line.Line.{Line}
@@ -20,14 +18,13 @@ use Rattle.xv_script.specs.declared.word.Named.{Named}
 use Rattle.xv_script.specs.declared.word.Named.TheVariants.{Nothing, OfGuests, OfDisks, OfStreams, OfUnits}
 use Rattle.xv_script.specs.declared.word.Word.{Word}
 
--- the lines so far, whether a region has begun, and whether `stop` has come
+-- the lines so far, and whether `stop` has come
 pub record Script : Type 0 where
   pub lines : List Line
-  pub began : Bool
   pub stopped : Bool
 
 abbrev pub first_script : Script
-first_script = record { lines = []; began = false; stopped = false }
+first_script = record { lines = []; stopped = false }
 
 -- how many guests, disks, streams and units a job has
 abbrev pub counts_of : Job → Counts
@@ -48,22 +45,13 @@ number_said word args = number_at (values (kinds (named word)) args) 0
 abbrev pub range_fault : Counts → Word → List (List ℕ) → Option LineWhy
 range_fault counts word args = fault_if (nat_le (count_of counts (named word)) (number_said word args)) OutOfRange
 
--- what is not built yet: a guest's event once a region has begun, a release, a cancel, and a unit that is asked for
-abbrev pub is_unbuilt : Bool → Option Line → Bool
-is_unbuilt began None = false
-is_unbuilt began (Some (Step event)) = not (is_built_event event) || (began && is_guest event)
-is_unbuilt began (Some (Ask unit)) = true
+-- what is wrong with a line, the first reason: its word, what follows it, and a number that names nothing
+abbrev pub word_fault : Counts → Option Word → List (List ℕ) → Option LineWhy
+word_fault counts None args = Some BadWord
+word_fault counts (Some word) args = or_else (fields_fault (kinds (named word)) args) (range_fault counts word args)
 
--- what is wrong with a line, the first reason: its word, what follows it, a number that names nothing, and what is not
--- built
-abbrev pub word_fault : Counts → Bool → Option Word → List (List ℕ) → Option LineWhy
-word_fault counts began None args = Some BadWord
-word_fault counts began (Some word) args =
-    or_else (fields_fault (kinds (named word)) args)
-    (or_else (range_fault counts word args) (fault_if (is_unbuilt began (line_said word (number_said word args))) Unbuilt))
-
-abbrev pub line_fault : Counts → Bool → List (List ℕ) → Option LineWhy
-line_fault counts began line = word_fault counts began (word_of (head line)) (tail line)
+abbrev pub line_fault : Counts → List (List ℕ) → Option LineWhy
+line_fault counts line = word_fault counts (word_of (head line)) (tail line)
 
 -- the line that fields without a fault say; none where the script stops
 abbrev pub line_by : Option Word → List (List ℕ) → Option Line
@@ -74,20 +62,16 @@ abbrev pub line_in : List (List ℕ) → Option Line
 line_in line = line_by (word_of (head line)) (tail line)
 
 -- the script with one line more, or stopped
-abbrev pub begins : Line → Bool
-begins (Step event) = is_begin event
-begins (Ask unit) = false
-
 abbrev pub with_line : Script → Option Line → Script
 with_line s None = record s { stopped = true }
-with_line s (Some line) = record s { lines = s.lines ++ line ∷ []; began = s.began || begins line }
+with_line s (Some line) = record s { lines = s.lines ++ line ∷ [] }
 
 -- what reads a script, where there are so many of what its lines name
 abbrev pub is_stopped : Script → Bool
 is_stopped s = s.stopped
 
 abbrev pub fault_in : Counts → Script → List (List ℕ) → Option LineWhy
-fault_in counts s line = line_fault counts s.began line
+fault_in counts s line = line_fault counts line
 
 abbrev pub next_script : Script → List (List ℕ) → Script
 next_script s line = with_line s (line_in line)
@@ -111,12 +95,6 @@ abbrev pub is_in : Job → Line → Bool
 is_in job (Step event) = fits job event
 is_in job (Ask unit) = nat_lt unit.0 (unit_count job)
 
-abbrev pub is_step : Line → Bool
-is_step (Step event) = true
-is_step (Ask unit) = false
-
--- the lines that a script of a job may have so far
+-- the lines that a script of a job may have
 pub record IsScriptOf (job : Job) (lines : List Line) : Type 0 where
   pub in_job : list_all (is_in job) lines ≡ true
-  pub steps : list_all is_step lines ≡ true
-  pub built : are_built false (events_of lines) ≡ true

@@ -6,7 +6,7 @@ ghost use Rattle.xv_text.specs.Reading.{IfFault};
 ghost use Rattle.xv_job.specs.Written.{job_of};
 ghost use Rattle.xv_script.specs.Words.{named, line_said};
 ghost use Rattle.xv_script.specs.Lines.{script_text};
-ghost use Rattle.xv_script.specs.Script.{counts_of, count_of, is_unbuilt, line_fault, line_in, begins, text_fault, text_lines, IsScriptOf};
+ghost use Rattle.xv_script.specs.Script.{counts_of, count_of, line_fault, line_in, text_fault, text_lines, IsScriptOf};
 ghost use Rattle.xv_script.specs.declared.line.Line.{Line as LineRecord};
 
 use crate::counts::{Counts, counts_of};
@@ -51,11 +51,10 @@ pub(crate) fn read_lines(
     ensures lines { IfOk result (λ lines. lines.items ≡ text_lines counts text.now) }
 {
     let mut lines = Vec::new(alloc);
-    let mut began = false;
     let mut number = first_line;
     let mut rest = text;
     while let Some((line, more)) = next_line(rest) {
-        let found = match read_line(counts, began, line) {
+        let found = match read_line(counts, line) {
             Ok(found) => found,
             Err(why) => return Err(fault(number, why)),
         };
@@ -69,7 +68,6 @@ pub(crate) fn read_lines(
         let Ok(()) = lines.push(line) else {
             return Err(TextError::NoMemory);
         };
-        began |= begins(line);
         number += 1;
         rest = more;
     }
@@ -82,12 +80,12 @@ fn fault(line: u32, why: LineWhy) -> TextError
     TextError::Fault(LineFault { line, why })
 }
 
-/// What a line says; none where it is `stop`. The flag says that a region has begun before it.
+/// What a line says; none where it is `stop`.
 /// Errors: the first reason why the line is refused.
-fn read_line(counts: Counts, began: bool, line: &[u8]) -> Result<Option<Line>, LineWhy>
-    ensures no_fault { IfOk result (λ found. line_fault counts began (fields line.now) ≡ None) }
+fn read_line(counts: Counts, line: &[u8]) -> Result<Option<Line>, LineWhy>
+    ensures no_fault { IfOk result (λ found. line_fault counts (fields line.now) ≡ None) }
     ensures line { IfOk result (λ found. line_in (fields line.now) ≡ found) }
-    ensures fault { IfErr result (λ why. line_fault counts began (fields line.now) ≡ Some why) }
+    ensures fault { IfErr result (λ why. line_fault counts (fields line.now) ≡ Some why) }
 {
     let (first, args) = first_field(line);
     let Some(word) = word_of(first) else {
@@ -101,11 +99,7 @@ fn read_line(counts: Counts, began: bool, line: &[u8]) -> Result<Option<Line>, L
     if n >= counts.of(word.named()) {
         return Err(LineWhy::OutOfRange);
     }
-    let said = line_said(counts, word, n);
-    if is_unbuilt(began, said) {
-        return Err(LineWhy::Unbuilt);
-    }
-    Ok(said)
+    Ok(line_said(counts, word, n))
 }
 
 /// The line that a word says with the number of something that is there; none where the script stops.
@@ -132,40 +126,4 @@ fn line_said(counts: Counts, word: Word, n: u32) -> Option<Line>
         Word::Probe => Some(Line::Ask(UnitId(n))),
         Word::Stop => None,
     }
-}
-
-/// Whether a line is not built yet: a guest's event once a region has begun, a release, a cancel, and a unit that
-/// is asked for.
-fn is_unbuilt(began: bool, line: Option<Line>) -> bool
-    ensures { result ≡ is_unbuilt began line }
-{
-    match line {
-        None => false,
-        Some(Line::Ask(_)) => true,
-        Some(Line::Step(Event::Guest(_))) => began,
-        Some(Line::Step(Event::Release(_) | Event::Cancel)) => true,
-        Some(
-            Line::Step(
-                Event::Begin(_)
-                | Event::Read(_)
-                | Event::Advance(_)
-                | Event::Round
-                | Event::Page
-                | Event::Send(_)
-                | Event::Deliver(_)
-                | Event::Apply
-                | Event::Ack
-                | Event::Credit
-                | Event::Stun
-                | Event::Switch,
-            ),
-        ) => false,
-    }
-}
-
-/// Whether a region begins by the line.
-fn begins(line: Line) -> bool
-    ensures { result ≡ begins line }
-{
-    matches!(line, Line::Step(Event::Begin(_)))
 }

@@ -19,37 +19,99 @@ const COUNTS: Counts = Counts {
     units: 5,
 };
 
+/// Events and their answers, and the lines that these make where the bytes read are 0a and ff.
+const ANSWERS: [(Event, Turn, &str); 6] = [
+    (GUEST, Turn::Done(Note { a: 0, b: 0 }), "guest 0 done\n"),
+    (
+        GUEST,
+        Turn::Done(Note { a: 2, b: 0 }),
+        "guest 0 read 0aff\n",
+    ),
+    (
+        Event::Send(2),
+        Turn::Done(Note { a: 1, b: 20 }),
+        "send 2 done 1 20\n",
+    ),
+    (
+        Event::Stun,
+        Turn::Wait(Why::CancelDue),
+        "stun wait cancel-due\n",
+    ),
+    (
+        Event::Apply,
+        Turn::Failed(Cause::Put(7)),
+        "apply failed put 7\n",
+    ),
+    (
+        Event::Switch,
+        Turn::Done(Note { a: 0, b: 0 }),
+        "switch done\n",
+    ),
+];
+
+/// Texts whose first line has number 10, with the line that is refused and the reason.
+const REFUSED: [(&[u8], u32, LineWhy); 28] = [
+    (b"stop\nx", 11, LineWhy::Order),
+    (b"stop\n\n", 11, LineWhy::Order),
+    (b"", 10, LineWhy::Unended),
+    (b"stop", 10, LineWhy::Unended),
+    (b"round\n", 11, LineWhy::Unended),
+    (b"round\nguest 9", 11, LineWhy::Unended),
+    (b"\n", 10, LineWhy::BadWord),
+    (b"rounds\n", 10, LineWhy::BadWord),
+    (b"Stop\n", 10, LineWhy::BadWord),
+    (b" round\n", 10, LineWhy::BadWord),
+    (b"round \n", 10, LineWhy::BadWord),
+    (b"page 0\n", 10, LineWhy::BadWord),
+    (b"guest\n", 10, LineWhy::BadWord),
+    (b"guest 0 x\n", 10, LineWhy::BadWord),
+    (b"guest  0\n", 10, LineWhy::BadWord),
+    (b"probe 0 1\n", 10, LineWhy::BadWord),
+    (b"cancel 0\n", 10, LineWhy::BadWord),
+    (b"guest 00\n", 10, LineWhy::BadNumber),
+    (b"guest 4294967296\n", 10, LineWhy::BadNumber),
+    (b"guest 4294967295\n", 10, LineWhy::OutOfRange),
+    (b"guest 1\nguest 2\n", 11, LineWhy::OutOfRange),
+    (b"begin 1\n", 10, LineWhy::OutOfRange),
+    (b"send 2\nsend 3\n", 11, LineWhy::OutOfRange),
+    (b"deliver 256\n", 10, LineWhy::OutOfRange),
+    (b"probe 5\n", 10, LineWhy::OutOfRange),
+    (b"release 1\n", 10, LineWhy::OutOfRange),
+    (b"begin 0\nguest 2\n", 11, LineWhy::OutOfRange),
+    (b"guest 1\nbegin 0\nx\n", 12, LineWhy::BadWord),
+];
+
+/// A job of two guests, one disk, three streams and five units.
+const JOB: &[u8] =
+    b"job 2\npages 1 16\ndisk 4 16\nstreams 3\ncredit 4\noutbox 4\nregion 1\nrounds 1\ndirty 0\ngroup 2\ncancel 0\nguest\nguest\nend\n";
+
+/// A script with every line, and what it says.
+const SCRIPT: &[u8] =
+    b"guest 1\nbegin 0\nread 0\nguest 0\nadvance 0\nrelease 0\nround\npage\nsend 2\ndeliver 2\nprobe 4\napply\nack\ncredit\nstun\nswitch\ncancel\nstop\n";
+
+const LINES: [Line; 17] = [
+    Line::Step(Event::Guest(GuestId(1))),
+    Line::Step(Event::Begin(0)),
+    Line::Step(Event::Read(0)),
+    Line::Step(Event::Guest(GuestId(0))),
+    Line::Step(Event::Advance(0)),
+    Line::Step(Event::Release(0)),
+    Line::Step(Event::Round),
+    Line::Step(Event::Page),
+    Line::Step(Event::Send(2)),
+    Line::Step(Event::Deliver(2)),
+    Line::Ask(UnitId(4)),
+    Line::Step(Event::Apply),
+    Line::Step(Event::Ack),
+    Line::Step(Event::Credit),
+    Line::Step(Event::Stun),
+    Line::Step(Event::Switch),
+    Line::Step(Event::Cancel),
+];
+
 #[test]
 fn prints_answers(rt: HostRuntime) {
-    let cases = [
-        (GUEST, Turn::Done(Note { a: 0, b: 0 }), "guest 0 done\n"),
-        (
-            GUEST,
-            Turn::Done(Note { a: 2, b: 0 }),
-            "guest 0 read 0aff\n",
-        ),
-        (
-            Event::Send(2),
-            Turn::Done(Note { a: 1, b: 20 }),
-            "send 2 done 1 20\n",
-        ),
-        (
-            Event::Stun,
-            Turn::Wait(Why::CancelDue),
-            "stun wait cancel-due\n",
-        ),
-        (
-            Event::Apply,
-            Turn::Failed(Cause::Put(7)),
-            "apply failed put 7\n",
-        ),
-        (
-            Event::Switch,
-            Turn::Done(Note { a: 0, b: 0 }),
-            "switch done\n",
-        ),
-    ];
-    for (event, turn, want) in cases {
+    for (event, turn, want) in ANSWERS {
         let line = print_turn(event, turn, &[10, 255]);
         assert_eq!(rt; line.bytes(), want.as_bytes());
     }
@@ -73,39 +135,7 @@ fn prints_a_unit(rt: HostRuntime) {
 #[test]
 #[tactic(auto, using(crate::proofs::Progress::few_lines))]
 fn refuses_texts(rt: HostRuntime) {
-    let cases: [(&[u8], u32, LineWhy); 30] = [
-        (b"stop\nx", 11, LineWhy::Order),
-        (b"stop\n\n", 11, LineWhy::Order),
-        (b"", 10, LineWhy::Unended),
-        (b"stop", 10, LineWhy::Unended),
-        (b"round\n", 11, LineWhy::Unended),
-        (b"round\nguest 9", 11, LineWhy::Unended),
-        (b"\n", 10, LineWhy::BadWord),
-        (b"rounds\n", 10, LineWhy::BadWord),
-        (b"Stop\n", 10, LineWhy::BadWord),
-        (b" round\n", 10, LineWhy::BadWord),
-        (b"round \n", 10, LineWhy::BadWord),
-        (b"page 0\n", 10, LineWhy::BadWord),
-        (b"guest\n", 10, LineWhy::BadWord),
-        (b"guest 0 x\n", 10, LineWhy::BadWord),
-        (b"guest  0\n", 10, LineWhy::BadWord),
-        (b"guest 00\n", 10, LineWhy::BadNumber),
-        (b"guest 4294967296\n", 10, LineWhy::BadNumber),
-        (b"guest 4294967295\n", 10, LineWhy::OutOfRange),
-        (b"guest 1\nguest 2\n", 11, LineWhy::OutOfRange),
-        (b"begin 1\n", 10, LineWhy::OutOfRange),
-        (b"send 2\nsend 3\n", 11, LineWhy::OutOfRange),
-        (b"deliver 256\n", 10, LineWhy::OutOfRange),
-        (b"probe 5\n", 10, LineWhy::OutOfRange),
-        (b"probe 4\n", 10, LineWhy::Unbuilt),
-        (b"release 1\n", 10, LineWhy::OutOfRange),
-        (b"release 0\n", 10, LineWhy::Unbuilt),
-        (b"cancel\n", 10, LineWhy::Unbuilt),
-        (b"begin 0\nguest 2\n", 11, LineWhy::OutOfRange),
-        (b"begin 0\nread 0\nguest 1\n", 12, LineWhy::Unbuilt),
-        (b"guest 1\nbegin 0\nx\n", 12, LineWhy::BadWord),
-    ];
-    for (text, line, why) in cases {
+    for (text, line, why) in REFUSED {
         assert!(rt; text.len() < 100);
         match read_lines(rt.alloc(), COUNTS, text, 10) {
             Err(error) => assert_eq!(rt; error, TextError::Fault(LineFault { line, why })),
@@ -115,22 +145,12 @@ fn refuses_texts(rt: HostRuntime) {
 }
 
 #[test]
-fn reads_a_script(rt: HostRuntime) -> Result<(), Fail> {
-    let job =
-        b"job 1\npages 1 16\ndisk 2 16\nstreams 1\ncredit 4\noutbox 4\nregion 1\nrounds 1\ndirty 0\nguest\nend\n";
-    let (job, place) = read_job(rt.alloc(), job).expect(&rt, "a job");
-    let script = b"guest 0\nbegin 0\nround\nsend 0\nstop\n".as_slice();
+#[tactic(auto, using(crate::proofs::Progress::few_lines))]
+fn reads_every_line(rt: HostRuntime) -> Result<(), Fail> {
+    let (job, place) = read_job(rt.alloc(), JOB).expect(&rt, "a job");
     assert!(rt; place.line < 100);
-    let lines = read_events(rt.alloc(), &job, script, place.line).expect(&rt, "a script");
-    assert_eq!(rt;
-        lines.as_slice(),
-        [
-            Line::Step(Event::Guest(GuestId(0))),
-            Line::Step(Event::Begin(0)),
-            Line::Step(Event::Round),
-            Line::Step(Event::Send(0)),
-        ]
-        .as_slice()
-    );
+    assert!(rt; SCRIPT.len() < 200);
+    let lines = read_events(rt.alloc(), &job, SCRIPT, place.line).expect(&rt, "a script");
+    assert_eq!(rt; lines.as_slice(), LINES.as_slice());
     Ok(())
 }

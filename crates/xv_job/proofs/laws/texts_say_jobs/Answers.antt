@@ -1,6 +1,5 @@
-use Rattle.std.proofs.Common.{false}
 use Rattle.xv_job.proofs.Texts.{says_job}
 use Rattle.xv_job.proofs.laws.texts_say_jobs.Goals as goal
 
 pub returns : goal.returns
-returns c = λ text h. says_job false text h
+returns c = λ text h. says_job text h

@@ -34,12 +34,3 @@ pub take_operation-requires-clause-few : goal.take_operation-requires-clause-few
 take_operation-requires-clause-few c =
     let few = (traces_there (draft_held c.args.self.now) c.requires.reached (c.requires.traces (is_op_word c.args.word c.in-Operation.verb c.in-Operation.is))).few in
     omega (arith, c.requires.consistent.operations)
-
-pub returns-in-Disk-clause-stopped : goal.returns-in-Disk-clause-stopped
-returns-in-Disk-clause-stopped c = rw c.in-Disk.is (c.take_disk.ensures.stopped c.args.built)
-
-pub returns-in-Init-clause-stopped : goal.returns-in-Init-clause-stopped
-returns-in-Init-clause-stopped c = rw c.in-Init.is (c.take_init.ensures.stopped c.args.built)
-
-pub returns-in-End-clause-stopped : goal.returns-in-End-clause-stopped
-returns-in-End-clause-stopped c = rw c.in-End.is (c.take_end.ensures.stopped c.args.built)
