@@ -23,7 +23,7 @@ use Rattle.xv_top.specs.Top.{HasRun}
 use Rattle.xv_top.proofs.Always.{always, script-fits}
 use Rattle.xv_parts.proofs.Staying.{begins}
 use Rattle.xv_parts.proofs.Planned.{faithful}
-use Rattle.xv_top.proofs.Parts.{writes-are}
+use Rattle.xv_parts.proofs.Holding.{source-writes, dest-writes}
 use Rattle.xv_top.proofs.Played.{played-more}
 use Rattle.xv_top.proofs.Replayed.{IsReplay, replay-is, transcript-front}
 
@@ -39,7 +39,7 @@ has-run w m lines text script replay = record {
   journal = replay.journal;
   faithful = subst (λ (x : Written). is_faithful (job_of x) m.journal ≡ true) replay.of_job (faithful m replay.in_memory);
   kept = replay.in_memory.kept;
-  counts = writes-are m replay.in_memory;
+  counts = record { source = λ unit there. source-writes m replay.in_memory unit; dest = λ unit there. dest-writes m replay.in_memory unit };
   always = always (job_of w) (events_of lines) (subst (λ (x : Written). IsGoodJob (job_of x)) replay.of_job replay.in_memory.kept.good) (script-fits (job_of w) lines script.in_job);
 }
 

@@ -23,7 +23,7 @@ use Rattle.xv_top.specs.Playing.{IsEventPlayed, IsLinePlayed, ArePlayed}
 use Rattle.xv_top.specs.Replay.{transcript_from, transcript}
 use Rattle.xv_parts.proofs.Staying.{stays}
 use Rattle.xv_parts.proofs.Planned.{answered-as, left-as, called-as}
-use Rattle.xv_top.proofs.Parts.{reads-are}
+use Rattle.xv_parts.proofs.Reading.{read-on}
 
 -- the entries that events make of a job from a view on, after these calls
 abbrev pub play_from : Job → View → List Call → List Event → List Entry
@@ -38,8 +38,8 @@ record IsNext (w : Written) (m n : Seen) (e : Event) (text : List ℕ) : Type 0 
   called : calls (job_of w) n.journal ≡ calls (job_of w) m.journal ++ call_of (job_of w) (run (job_of w) m.journal) e (turn (job_of w) (run (job_of w) m.journal) e (flag (job_of w) (run (job_of w) m.journal) (calls (job_of w) m.journal) e))
   line : text ≡ turn_line e (turn (job_of w) (run (job_of w) m.journal) e (flag (job_of w) (run (job_of w) m.journal) (calls (job_of w) m.journal) e)) (read_bytes (job_of w) (step (job_of w) (run (job_of w) m.journal) e (flag (job_of w) (run (job_of w) m.journal) (calls (job_of w) m.journal) e)).history (length (run (job_of w) m.journal).history))
 
-next : (m n : Seen) (e : Event) (text : List ℕ) → IsInMemory m → fits (job_of m.job) e ≡ true → IsEventPlayed m e n text → IsNext m.job m n e text
-next m n e text inside fit played =
+next : (m n : Seen) (e : Event) (text : List ℕ) → IsInMemory m → IsEventPlayed m e n text → IsNext m.job m n e text
+next m n e text inside played =
     let w = m.job in
     let job = job_of w in
     let v = run job m.journal in
@@ -62,7 +62,7 @@ next m n e text inside fit played =
       line =
           played.line
           ∙ (ap (λ (u : Turn). turn_line e u (drop (length m.reads) n.reads)) answer
-          ∙ ap (λ (bytes : List ℕ). turn_line e t bytes) (reads-are m n e a inside fit played.stepped played.kept
+          ∙ ap (λ (bytes : List ℕ). turn_line e t bytes) (read-on m n e a inside played.stepped played.kept
           ∙ ap (λ (x : View). read_bytes job x.history (length v.history)) left));
     }
 
@@ -114,8 +114,7 @@ pub replay-is : (w : Written) (lines : List Line) (m n : Seen) (text : List ℕ)
 replay-is w [] m n text of inside fit played = replay-none w m n text of inside played
 replay-is w (Step e ∷ ls) m n text of inside fit (mid, first, rest, line, others, is) =
     let parts = and_parts (fits (job_of w) e) (list_all (is_in (job_of w)) ls) fit in
-    let fitting : fits (job_of m.job) e ≡ true = subst (λ (x : Written). fits (job_of x) e ≡ true) (sym of) parts.0 in
-    let one : IsNext w m mid e first = subst (λ (x : Written). IsNext x m mid e first) of (next m mid e first inside fitting line) in
+    let one : IsNext w m mid e first = subst (λ (x : Written). IsNext x m mid e first) of (next m mid e first inside line) in
     replay-step w m mid n e ls text first rest one (replay-is w ls mid n rest one.of_job one.in_memory parts.1 others) is
 replay-is w (Ask unit ∷ ls) m n text of inside fit (mid, first, rest, (same, asked), others, is) =
     let parts = and_parts (nat_lt unit.0 (unit_count (job_of w))) (list_all (is_in (job_of w)) ls) fit in
