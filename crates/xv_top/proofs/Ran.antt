@@ -1,6 +1,5 @@
 -- What a replay from the beginning of a job leaves and writes.
-use Rattle.std.proofs.Common.{◌≡◌, ℕ, ◌+◌, ◌≤◌, true, List, [], ◌∷◌, ◌++◌, length, take, refl, sym, ap, ◌∙◌, subst, append_assoc, append-nil, length-append, arith, Option}
-use Rattle.std.specs.Prelude.{◌&&◌}
+use Rattle.std.proofs.Common.{◌≡◌, ℕ, ◌+◌, ◌≤◌, true, List, [], ◌∷◌, ◌++◌, length, take, refl, sym, ap, ◌∙◌, subst, append_assoc, length-append, arith, Option}
 use Rattle.std.proofs.lemmas.Bool.{and_parts}
 use Rattle.std.proofs.Math.Seq.{take-append-add}
 use Rattle.std.proofs.lemmas.List.Folds.{list_all-append}
@@ -14,7 +13,7 @@ use Rattle.xv_script.specs.Lines.{events_of}
 use Rattle.xv_script.specs.Script.{is_in, IsScriptOf}
 use Rattle.xv_script.specs.declared.line.Line.{Line}
 use Rattle.xv_job.specs.Written.{Written, job_of}
-use Rattle.xv_core.specs.Seen.{Seen, view_of}
+use Rattle.xv_core.specs.Seen.{Seen}
 use Rattle.xv_core.specs.Keeping.{IsKept}
 use Rattle.xv_parts.specs.Memory.{IsInMemory, begun_in_memory}
 use Rattle.xv_top.specs.Playing.{ArePlayed, IsCutShort}

@@ -1,5 +1,5 @@
 -- The report and the image of a migration in memory are those that its journal says.
-use Rattle.std.proofs.Common.{◌≡◌, ℕ, true, false, List, ◌++◌, length, sym, ap, ◌∙◌, subst, Option, Some}
+use Rattle.std.proofs.Common.{◌≡◌, ℕ, List, ◌++◌, length, sym, ap, ◌∙◌, subst, Option, Some}
 use Rattle.xv_base.specs.declared.event.Totals.{Totals}
 use Rattle.xv_device.specs.Memory.{Device, told}
 use Rattle.xv_device.specs.Told.{Told}
