@@ -1,4 +1,3 @@
-pub mod Parts
 pub mod Later
 pub mod Played
 pub mod Replayed

@@ -1,6 +1,5 @@
 -- What a replay from the beginning of a job leaves and writes.
-use Rattle.std.proofs.Common.{◌≡◌, ℕ, ◌+◌, ◌≤◌, true, List, [], ◌∷◌, ◌++◌, length, take, refl, sym, ap, ◌∙◌, subst, append_assoc, append-nil, length-append, arith, Option}
-use Rattle.std.specs.Prelude.{◌&&◌}
+use Rattle.std.proofs.Common.{◌≡◌, ℕ, ◌+◌, ◌≤◌, true, List, [], ◌∷◌, ◌++◌, length, take, refl, sym, ap, ◌∙◌, subst, append_assoc, length-append, arith, Option}
 use Rattle.std.proofs.lemmas.Bool.{and_parts}
 use Rattle.std.proofs.Math.Seq.{take-append-add}
 use Rattle.std.proofs.lemmas.List.Folds.{list_all-append}
@@ -14,7 +13,7 @@ use Rattle.xv_script.specs.Lines.{events_of}
 use Rattle.xv_script.specs.Script.{is_in, IsScriptOf}
 use Rattle.xv_script.specs.declared.line.Line.{Line}
 use Rattle.xv_job.specs.Written.{Written, job_of}
-use Rattle.xv_core.specs.Seen.{Seen, view_of}
+use Rattle.xv_core.specs.Seen.{Seen}
 use Rattle.xv_core.specs.Keeping.{IsKept}
 use Rattle.xv_parts.specs.Memory.{IsInMemory, begun_in_memory}
 use Rattle.xv_top.specs.Playing.{ArePlayed, IsCutShort}
@@ -23,7 +22,7 @@ use Rattle.xv_top.specs.Top.{HasRun}
 use Rattle.xv_top.proofs.Always.{always, script-fits}
 use Rattle.xv_parts.proofs.Staying.{begins}
 use Rattle.xv_parts.proofs.Planned.{faithful}
-use Rattle.xv_top.proofs.Parts.{writes-are}
+use Rattle.xv_parts.proofs.Holding.{source-writes, dest-writes}
 use Rattle.xv_top.proofs.Played.{played-more}
 use Rattle.xv_top.proofs.Replayed.{IsReplay, replay-is, transcript-front}
 
@@ -39,7 +38,7 @@ has-run w m lines text script replay = record {
   journal = replay.journal;
   faithful = subst (λ (x : Written). is_faithful (job_of x) m.journal ≡ true) replay.of_job (faithful m replay.in_memory);
   kept = replay.in_memory.kept;
-  counts = writes-are m replay.in_memory;
+  counts = record { source = λ unit there. source-writes m replay.in_memory unit; dest = λ unit there. dest-writes m replay.in_memory unit };
   always = always (job_of w) (events_of lines) (subst (λ (x : Written). IsGoodJob (job_of x)) replay.of_job replay.in_memory.kept.good) (script-fits (job_of w) lines script.in_job);
 }
 

@@ -1,14 +1,13 @@
 -- An input is refused as its job, or behind it as its script.
-use Rattle.std.proofs.Common.{◌≡◌, ℕ, ◌+◌, ◌<◌, ◌≤◌, Bool, true, false, List, [], ◌∷◌, ◌++◌, length, length-append, drop, ◌==◌, Option, Some, None, refl, sym, ap, ◌∙◌, subst, arith, if◌then◌else◌}
+use Rattle.std.proofs.Common.{◌≡◌, ℕ, ◌+◌, ◌<◌, ◌≤◌, Bool, true, false, List, [], ◌∷◌, ◌++◌, length, length-append, drop, ◌==◌, Option, Some, None, refl, ap, ◌∙◌, arith}
 use Rattle.std.specs.Prelude.{nat_lt}
 use Rattle.std.proofs.Math.Seq.{drop-append_seam}
 use Rattle.std.proofs.lemmas.List.{length-map}
 use Rattle.xv_base.specs.declared.text.LineWhy.TheVariants.{Limit}
 use Rattle.xv_base.specs.declared.text.LineFault.{LineFault}
 use Rattle.xv_text.specs.Lines.{lines_of, has_rest, whole_lines, before_first, fields}
-use Rattle.xv_text.specs.Reading.{first_fault, last_state, line_count}
+use Rattle.xv_text.specs.Reading.{first_fault}
 use Rattle.xv_job.specs.Written.{Written, job_of}
-use Rattle.xv_job.specs.Draft.{first_draft}
 use Rattle.xv_job.specs.Written.{IsGoodWritten}
 use Rattle.xv_job.specs.Texts.{text_fault as job_text_fault}
 use Rattle.xv_job.proofs.Texts.{job_read, job_is_said, lines_are, rest_is}

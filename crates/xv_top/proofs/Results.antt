@@ -1,5 +1,5 @@
 -- The report and the image of a migration in memory are those that its journal says.
-use Rattle.std.proofs.Common.{◌≡◌, ℕ, true, false, List, ◌++◌, length, sym, ap, ◌∙◌, subst, Option, Some}
+use Rattle.std.proofs.Common.{◌≡◌, ℕ, List, ◌++◌, length, sym, ap, ◌∙◌, subst, Option, Some}
 use Rattle.xv_base.specs.declared.event.Totals.{Totals}
 use Rattle.xv_device.specs.Memory.{Device, told}
 use Rattle.xv_device.specs.Told.{Told}
@@ -11,8 +11,8 @@ use Rattle.xv_job.specs.Written.{job_of}
 use Rattle.xv_core.specs.Seen.{Seen, view_of}
 use Rattle.xv_parts.specs.Memory.{IsInMemory}
 use Rattle.xv_parts.specs.Sides.{sources, dests}
+use Rattle.xv_parts.proofs.Holding.{source-holds, dest-holds}
 use Rattle.xv_top.specs.Replay.{result_text}
-use Rattle.xv_top.proofs.Parts.{sources-are, dests-are}
 
 -- the contents of a device that is seen as one of the migration's
 contents-of : (d : Device) (t : Told) (contents : List (List ℕ)) → told d ≡ t → t.contents ≡ Some contents → d.contents ≡ contents
@@ -26,8 +26,8 @@ report-is m t of_totals = sym (ap (λ (u : Totals). report_text u ++ image_text 
 
 pub result-is : (m : Seen) (t : Totals) (s d : Device) → IsInMemory m → t ≡ totals (job_of m.job) (view_of m) (length m.journal) → told s ≡ m.source.told → told d ≡ m.dest.told → result_text (job_of m.job) m.journal ≡ report_text t ++ image_text s.contents d.contents
 result-is m t s d inside of_totals of_source of_dest =
-    let left = contents-of s m.source.told (sources (job_of m.job) (view_of m)) of_source (sources-are m inside) in
-    let right = contents-of d m.dest.told (dests (job_of m.job) (view_of m)) of_dest (dests-are m inside) in
+    let left = contents-of s m.source.told (sources (job_of m.job) (view_of m)) of_source (source-holds m inside) in
+    let right = contents-of d m.dest.told (dests (job_of m.job) (view_of m)) of_dest (dest-holds m inside) in
     report-is m t of_totals
     ∙ sym (ap (λ (xs : List (List ℕ)). report_text t ++ image_text xs d.contents) left
     ∙ ap (λ (ys : List (List ℕ)). report_text t ++ image_text (sources (job_of m.job) (view_of m)) ys) right)

@@ -22,8 +22,10 @@ input_text written lines = job_text written ++ script_text lines
 abbrev pub transcript_from : Job → View → List Call → List Line → List ℕ
 transcript_from job v calls [] = []
 transcript_from job v calls (Step e ∷ ls) =
-    turn_line e (turn job v e (flag job v calls e)) (read_bytes job (step job v e (flag job v calls e)).history (length v.history))
-    ++ transcript_from job (step job v e (flag job v calls e)) (calls ++ call_of job v e (turn job v e (flag job v calls e))) ls
+    let failing = flag job v calls e in
+    let answer = turn job v e failing in
+    let after = step job v e failing in
+    turn_line e answer (read_bytes job after.history (length v.history)) ++ transcript_from job after (calls ++ call_of job v e answer) ls
 transcript_from job v calls (Ask unit ∷ ls) = probe_line (probe job v unit.0) ++ transcript_from job v calls ls
 
 abbrev pub transcript : Job → List Line → List ℕ

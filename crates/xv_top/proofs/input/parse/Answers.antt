@@ -1,11 +1,10 @@
-use Rattle.std.proofs.Common.{◌≡◌, ℕ, ◌+◌, List, ◌++◌, length, sym, ap, ◌∙◌, arith, None}
+use Rattle.std.proofs.Common.{ℕ, List, ◌++◌, sym, ap, ◌∙◌, arith}
 use Rattle.xv_job.specs.Written.{job_of}
 use Rattle.xv_job.specs.JobText.{job_text}
 use Rattle.xv_job.proofs.Texts.{lines_are}
-use Rattle.xv_script.specs.Lines.{script_text}
 use Rattle.xv_script.specs.Script.{counts_of, text_fault}
 use Rattle.xv_top.proofs.Inputs.{joined}
-use Rattle.xv_top.proofs.Refusals.{fault-of_job, fault-behind_job, lines-behind}
+use Rattle.xv_top.proofs.Refusals.{fault-behind_job, lines-behind}
 use Rattle.xv_top.proofs.input.parse.Goals as goal
 
 pub read_events-requires : goal.read_events-requires

@@ -1,5 +1,4 @@
-use Rattle.std.proofs.Common.{refl, arith}
-use Rattle.std.specs.Prelude.{OnErr}
+use Rattle.std.proofs.Common.{arith}
 use Rattle.xv_base.specs.declared.event.Event.TheVariants.{Guest}
 use Rattle.xv_script.specs.declared.line.Line.{Line}
 use Rattle.xv_script.specs.declared.line.Line.TheVariants.{Step}
