@@ -1,3 +1,4 @@
+pub mod Numbers
 pub mod Later
 pub mod Played
 pub mod Replayed

@@ -1,13 +1,17 @@
 //! The table of commands.
 
-ghost use Rattle.std.specs.Prelude.{◌≡◌, ◌≢◌, ◌∷◌, [], map, IfSome, IfNone, string_bytes};
+ghost use Rattle.std.specs.Prelude.{◌≡◌, ◌≢◌, ◌<◌, ◌^◌, ℕ, ◌∷◌, [], map, decimal, IfSome, IfNone, string_bytes};
 ghost use Rattle.xv_top.specs.Command.{words_of, IsNoCommand};
+
+use xv_base::LineBuf;
 
 /// What the program is called to do.
 #[derive(Clone, Copy, Debug, PartialEq, Eq)]
 pub enum Command {
     /// Plays a script on a migration of a job.
     Replay,
+    /// Writes the job that a number makes.
+    Gen(u16),
     /// Plays a script on two nodes that hand a guest over.
     Handover,
 }
@@ -19,6 +23,7 @@ pub fn command_of(words: &[String]) -> Option<Command>
 {
     match words {
         [word] => of_one_word(word.as_str()),
+        [word, more] => of_two_words(word.as_str(), more.as_str()),
         _ => None,
     }
 }
@@ -31,5 +36,32 @@ fn of_one_word(word: &str) -> Option<Command>
         "replay" => Some(Command::Replay),
         "handover" => Some(Command::Handover),
         _ => None,
+    }
+}
+
+fn of_two_words(word: &str, more: &str) -> Option<Command>
+    ensures found { IfSome result (λ command. (word.now ∷ more.now ∷ []) ≡ words_of command) }
+    ensures none { IfNone result (IsNoCommand (word.now ∷ more.now ∷ [])) }
+{
+    match word {
+        "gen" => number_of(more).map(Command::Gen),
+        _ => None,
+    }
+}
+
+/// The number below 2^16 that a word says in decimal digits without leading zeros; none where it says none.
+fn number_of(word: &str) -> Option<u16>
+    ensures found { IfSome result (λ number. word.now ≡ decimal number) }
+    ensures none { IfNone result ((number : ℕ) → number < 2 ^ 16 → word.now ≢ decimal number) }
+{
+    let Ok(number) = word.parse::<u16>() else {
+        return None;
+    };
+    let mut spelled = LineBuf::new();
+    spelled.push_number(u32::from(number));
+    if spelled.bytes() == word.as_bytes() {
+        Some(number)
+    } else {
+        None
     }
 }

@@ -1,6 +1,6 @@
 //! The top call of the program.
 
-ghost use Rattle.std.specs.Prelude.{◌≡◌, ◌≢◌, ◌≤◌, ◌+◌, ◌⊎◌, map, IfOk, OnOk, IsErrOf, OnErr, string_bytes};
+ghost use Rattle.std.specs.Prelude.{ℕ, ◌≡◌, ◌≢◌, ◌≤◌, ◌+◌, ◌⊎◌, map, IfOk, OnOk, IsErrOf, OnErr, string_bytes};
 ghost use Rattle.xv_io.specs.Io.{CountRose, IsAtEnd, GaveAtLeast, TookMore, TookFront};
 ghost use Rattle.xv_job.specs.Written.{job_of};
 ghost use Rattle.xv_script.specs.Script.{IsScriptOf};
@@ -8,11 +8,12 @@ ghost use Rattle.xv_top.specs.Replay.{output_text};
 ghost use Rattle.xv_top.specs.Refused.{input_limit, refused_words};
 ghost use Rattle.xv_top.specs.Top.{IsReplayed, IsFrontFor, HasRun};
 ghost use Rattle.xv_top.specs.Command.{words_of, IsNoCommand};
-ghost use Rattle.xv_top.specs.Answers.{IsDone, IsRefusedBy, IsFrontBy};
+ghost use Rattle.xv_top.specs.Answers.{IsDone, HasRead, IsRefusedBy, IsFrontBy};
 ghost use Rattle.xv_top.specs.declared.command.Command.{Command as CommandName};
-ghost use Rattle.xv_top.specs.declared.command.Command.TheVariants.{Replay};
+ghost use Rattle.xv_top.specs.declared.command.Command.TheVariants.{Replay, Gen};
 
 use crate::command::{Command, command_of};
+use crate::generating::run_gen;
 use crate::handover::run_handover;
 use crate::input::{InputError, read_input};
 use crate::output::write_result;
@@ -33,12 +34,13 @@ pub enum Left {
 }
 
 /// Runs the program: the command that the words call. `replay` reads a job and a script, plays the script, and writes
-/// what each event answers, the report and the image; `left` is then the migration that ran. `handover` reads a script
-/// of two nodes, plays it, and writes what each event answers and the nodes.
+/// what each event answers, the report and the image; `left` is then the migration that ran. `gen` writes the job that its
+/// number makes, and reads nothing. `handover` reads a script of two nodes, plays it, and writes what each event answers
+/// and the nodes.
 ///
 /// Answers `BadWords` where the words call no command, `BadInput` where the input is refused, `ReadFault` and
 /// `WriteFault` where the input or the output failed, `NoMemory` for want of memory. At every answer but `Fine`, and
-/// at every answer of `handover`, `left` is nothing.
+/// at every answer of `gen` and `handover`, `left` is nothing.
 pub fn top<I: Source, O: Sink>(
     alloc: Global,
     words: &[String],
@@ -46,9 +48,13 @@ pub fn top<I: Source, O: Sink>(
     output: &mut O,
     left: &mut Left,
 ) -> Status
-    // Fine: the words call a command, which read the input to its end; what was written and is left is the command's.
-    ensures fine_reads { result ≡ Status.Fine → IsAtEnd (I.left input.new) }
+    // Fine: the words call a command, which read the input to its end, unless it reads nothing; what was written and is
+    // left is the command's.
+    ensures fine_reads { result ≡ Status.Fine → (command : CommandName) × ((map (λ w. string_bytes w) words.now ≡ words_of command) × HasRead command (I.left input.new)) }
     ensures fine { result ≡ Status.Fine → (command : CommandName) × ((map (λ w. string_bytes w) words.now ≡ words_of command) × IsDone command (I.left input.old) (O.taken output.old) (O.taken output.new) left.new) }
+
+    // `gen` reads nothing, whatever it answers.
+    ensures gen_reads_nothing { (number : ℕ) → map (λ w. string_bytes w) words.now ≡ words_of (Gen number) → (I.left input.new ≡ I.left input.old) × (I.faults input.new ≡ I.faults input.old) }
 
     // BadWords: exactly where the words call no command, unless the refusal cannot be written.
     ensures bad_words { result ≡ Status.BadWords → IsNoCommand (map (λ w. string_bytes w) words.now) × TookMore (O.taken output.old) (O.taken output.new) refused_words }
@@ -70,6 +76,7 @@ pub fn top<I: Source, O: Sink>(
     *left = Left::Nothing;
     match command_of(words) {
         Some(Command::Replay) => run_replay(alloc, input, output, left),
+        Some(Command::Gen(number)) => run_gen(alloc, number, output),
         Some(Command::Handover) => run_handover(alloc, input, output),
         None => refuse_words(output),
     }
