@@ -154,6 +154,8 @@ dest-done s g n new bytes x =
       source_layout = refl;
       dest_layout = ap (λ (told : Told). told.shape) made.told;
       contents = λ both. done-contents s g n new bytes x goes both;
+      read = read_by op (Done n) bytes;
+      behind = refl;
       more_read = done-reads s g n bytes x.running (guest_goes job v g.0 false goes).more x.long;
       calls = subst (λ (o : Outside). OneCall o false s t) (calls-at-dest s g x.on_dest) (calls-dest s.dest.shape op op.write false s t made refl refl refl);
     })
@@ -194,6 +196,8 @@ dest-faulted s g new bytes x =
       dest_layout = ap (λ (told : Told). told.shape) made.told;
       contents = λ both.
           joined-contents t c refl (sym (append-nil s.reads)) (has_source_bytes s both).part ((x.moves both).kept refl).part ∙ sym kept;
+      read = [];
+      behind = refl;
       more_read = ap (λ (xs : List ℕ). length xs) (append-nil s.reads) ∙ faulted-reads s (record { guest = g; outcome = HasFaulted }) x.running (guest_goes job v g.0 true goes).more refl;
       calls = subst (λ (o : Outside). OneCall o true s t) (calls-at-dest s g x.on_dest) (calls-dest s.dest.shape op op.write true s t made refl refl refl);
     })

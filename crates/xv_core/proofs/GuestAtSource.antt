@@ -206,6 +206,8 @@ source-done s g n new bytes x =
       source_layout = ap (λ (told : Told). told.shape) made.told;
       dest_layout = refl;
       contents = λ both. done-contents s g n new bytes x goes both;
+      read = read_by op (Done n) bytes;
+      behind = refl;
       more_read = subst (λ (h : List Ended). length (s.reads ++ read_by op (Done n) bytes) ≡ length (reads job h (length h))) (sym (ap (λ (j : Bool). if j then v.history else v.history ++ ends) no_join))
           (done-reads s g n bytes x.running (guest_goes job v g.0 false goes).more x.long);
       calls = subst (λ (o : Outside). OneCall o false s t) out (calls-source s.source.shape op op.write false s t made refl refl refl);
@@ -261,6 +263,8 @@ source-queued s g new bytes x =
       source_layout = ap (λ (told : Told). told.shape) same.0;
       dest_layout = refl;
       contents = λ both. queued-contents s g new bytes x goes joins both;
+      read = [];
+      behind = refl;
       more_read = subst (λ (h : List Ended). length (s.reads ++ []) ≡ length (reads job h (length h))) (sym (ap (λ (j : Bool). if j then v.history else v.history ++ record { guest = g; outcome = WasDone } ∷ []) joins))
           (ap (λ (xs : List ℕ). length xs) (append-nil s.reads) ∙ x.running.reads_long);
       calls = subst (λ (o : Outside). OneCall o false s t) out (record { source = untouched; dest = refl; streams = refl; back = refl });
@@ -304,6 +308,8 @@ source-faulted s g new bytes x =
       dest_layout = refl;
       contents = λ both.
           joined-contents t c refl (sym (append-nil s.reads)) (x.steps.failed_bytes c refl (has_source_bytes s both)).part (has_dest_bytes s both).part ∙ sym kept;
+      read = [];
+      behind = refl;
       more_read = ap (λ (xs : List ℕ). length xs) (append-nil s.reads) ∙ faulted-reads s (record { guest = g; outcome = HasFaulted }) x.running (guest_goes job v g.0 true goes).more refl;
       calls = subst (λ (o : Outside). OneCall o true s t) out (calls-source s.source.shape op op.write true s t made refl refl refl);
     })

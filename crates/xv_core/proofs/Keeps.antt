@@ -1,5 +1,5 @@
 -- A running migration keeps running over each event that happens.
-use Rattle.std.specs.Prelude.{◌≡◌, ◌&&◌, ◌==◌, Bool, true, false, List, [], ◌∷◌, ◌++◌, length, Option, Some, None, is_some, option_map, if◌then◌else◌}
+use Rattle.std.specs.Prelude.{◌≡◌, ◌&&◌, ◌==◌, Bool, true, false, List, [], ◌∷◌, ◌++◌, length, Option, Some, None, is_some, option_map}
 use Rattle.std.specs.List.{list_all}
 use Rattle.std.proofs.Common.{refl, ap, sym, subst, ◌∙◌}
 use Rattle.xv_model.specs.Guest.{reads}
@@ -8,20 +8,19 @@ use Rattle.std.proofs.lemmas.List.Folds.{list_all-append}
 use Rattle.xv_base.specs.declared.answer.Cause.{Cause}
 use Rattle.xv_base.specs.declared.answer.Cause.TheVariants.{SourceRead, DestWrite, Flush, Put, Take, AckPut, AckTake}
 use Rattle.xv_base.specs.declared.answer.Turn.TheVariants.{Done, Queued, Faulted, Wait as Waits, Failed as Broke}
-use Rattle.xv_base.specs.declared.answer.Why.{Why}
-use Rattle.xv_base.specs.declared.event.Event.TheVariants.{Guest, Begin, Read, Advance, Release, Round, Page, Send, Deliver, Apply, Ack, Credit, Stun, Switch, Cancel}
 use Rattle.xv_device.specs.Device.{DeviceCall}
 use Rattle.xv_device.specs.Told.{Told}
 use Rattle.xv_model.specs.Job.{Job, IsGoodJob}
 use Rattle.xv_model.specs.View.{View}
-use Rattle.xv_model.specs.Wait.{Event, wait, fits, is_join, next_aim}
-use Rattle.xv_model.specs.Effect.{Turn, answer, fault_answer}
-use Rattle.xv_model.specs.Step.{Entry, turn, turn_by, breaks, step, run, is_run, is_flagged, is_wait, same_cause, same_turn}
+use Rattle.xv_model.specs.Wait.{Event, fits}
+use Rattle.xv_model.specs.Effect.{Turn}
+use Rattle.xv_model.specs.Step.{Entry, turn, step, run, is_run, is_flagged, is_wait, same_cause, same_turn}
 use Rattle.xv_model.specs.Contents.{HoldsContents}
 use Rattle.xv_model.specs.Outside.{Outside, NoOutside, ReadSource, WriteSource, ReadDest, WriteDest, FlushDest, PutOn, TakeFrom, PutBack, TakeBack, outside}
 use Rattle.xv_job.specs.Written.{Written, job_of}
 use Rattle.xv_core.specs.Seen.{OnDevice}
 use Rattle.xv_core.specs.Calls.{Made, CallsSource, CallsDest}
+use Rattle.xv_core.specs.Keeping.{tells}
 use Rattle.xv_core.specs.State.{State, view, shown, both_tell, contents_of, on_source, on_dest, ArePartsOf, IsRunning}
 use Rattle.xv_core.specs.Happening.{OneCall, Happened}
 use Rattle.xv_model.proofs.OneMore.{run-one, is_run-one}
@@ -29,9 +28,6 @@ use Rattle.xv_model.proofs.Contents.Steps.{contents-step}
 use Rattle.xv_core.proofs.Joined.{view-holds}
 
 -- what a device tells, it tells after each call
-abbrev tells : OnDevice → Bool
-tells d = is_some d.told.contents
-
 map-tells : {A B : Type 0} (f : A → B) (o : Option A) → is_some (option_map f o) ≡ is_some o
 map-tells f None = refl
 map-tells f (Some x) = refl
@@ -72,57 +68,6 @@ both-tell o failed s t call =
     let dest : is_some t.dest.told.contents ≡ is_some s.dest.told.contents = dest-tells o failed (on_dest s.dest) (on_dest t.dest) call.dest in
     ap (λ (b : Bool). b && is_some t.dest.told.contents) source ∙ ap (λ (b : Bool). is_some s.source.told.contents && b) dest
 
--- the machine never answers that memory was wanting
-abbrev has_memory : Turn → Bool
-has_memory (Done n) = true
-has_memory Queued = true
-has_memory Faulted = true
-has_memory (Waits why) = true
-has_memory (Broke cause) = true
-
-memory-if : (c : Bool) (a b : Turn) → has_memory a ≡ true → has_memory b ≡ true → has_memory (if c then a else b) ≡ true
-memory-if true a b h k = h
-memory-if false a b h k = k
-
-memory-answer : (job : Job) (v : View) (e : Event) → has_memory (answer job v e) ≡ true
-memory-answer job v (Guest g) = memory-if (is_join (next_aim job v g.0)) Queued _ refl refl
-memory-answer job v (Begin d) = refl
-memory-answer job v (Read d) = refl
-memory-answer job v (Advance d) = refl
-memory-answer job v (Release d) = refl
-memory-answer job v Round = refl
-memory-answer job v Page = refl
-memory-answer job v (Send s) = memory-if (job.format == 1) _ _ refl refl
-memory-answer job v (Deliver s) = memory-if (job.format == 1) _ _ refl refl
-memory-answer job v Apply = refl
-memory-answer job v Ack = refl
-memory-answer job v Credit = refl
-memory-answer job v Stun = refl
-memory-answer job v Switch = refl
-memory-answer job v Cancel = refl
-
-memory-fault : (e : Event) → has_memory (fault_answer e) ≡ true
-memory-fault (Guest g) = refl
-memory-fault (Begin d) = refl
-memory-fault (Read d) = refl
-memory-fault (Advance d) = refl
-memory-fault (Release d) = refl
-memory-fault Round = refl
-memory-fault Page = refl
-memory-fault (Send s) = refl
-memory-fault (Deliver s) = refl
-memory-fault Apply = refl
-memory-fault Ack = refl
-memory-fault Credit = refl
-memory-fault Stun = refl
-memory-fault Switch = refl
-memory-fault Cancel = refl
-
-memory-by : (why : Option Why) (broken : Bool) (job : Job) (v : View) (e : Event) → has_memory (turn_by why broken job v e) ≡ true
-memory-by (Some why) broken job v e = refl
-memory-by None false job v e = memory-answer job v e
-memory-by None true job v e = memory-fault e
-
 -- an answer that is no wait agrees with itself
 same-cause : (c : Cause) → same_cause c c ≡ true
 same-cause SourceRead = refl
@@ -133,18 +78,15 @@ same-cause (Take s) = eq-eqb s s refl
 same-cause AckPut = refl
 same-cause AckTake = refl
 
-same-turn : (a : Turn) → is_wait a ≡ false → has_memory a ≡ true → same_turn a a ≡ true
-same-turn (Done n) goes memory = and_from (n.a == n.a) (n.b == n.b) (eq-eqb n.a n.a refl) (eq-eqb n.b n.b refl)
-same-turn Queued goes memory = refl
-same-turn Faulted goes memory = refl
-same-turn (Waits why) goes memory = absurd (cc)
-same-turn (Broke cause) goes memory = same-cause cause
+same-turn : (a : Turn) → is_wait a ≡ false → same_turn a a ≡ true
+same-turn (Done n) goes = and_from (n.a == n.a) (n.b == n.b) (eq-eqb n.a n.a refl) (eq-eqb n.b n.b refl)
+same-turn Queued goes = refl
+same-turn Faulted goes = refl
+same-turn (Waits why) goes = absurd (cc)
+same-turn (Broke cause) goes = same-cause cause
 
 pub same-answer : (job : Job) (v : View) (e : Event) (a : Turn) → is_wait a ≡ false → a ≡ turn job v e (is_flagged a) → same_turn a (turn job v e (is_flagged a)) ≡ true
-same-answer job v e a goes is =
-    let flag = is_flagged a in
-    let memory = ap has_memory is ∙ memory-by (wait job v e flag) (breaks job v e flag) job v e in
-    subst (λ (b : Turn). same_turn a b ≡ true) is (same-turn a goes memory)
+same-answer job v e a goes is = subst (λ (b : Turn). same_turn a b ≡ true) is (same-turn a goes)
 
 -- the journal with one entry more
 more-fitting : (job : Job) (journal : List Entry) (e : Event) (a : Turn) → list_all (λ (x : Entry). fits job x.event) journal ≡ true → fits job e ≡ true → list_all (λ (x : Entry). fits job x.event) (journal ++ record { event = e; turn = a } ∷ []) ≡ true

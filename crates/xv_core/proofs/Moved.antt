@@ -1,6 +1,6 @@
 -- An event that moves messages: from what the halves ensure of its call to what happened to the migration.
 use Rattle.std.specs.Prelude.{◌≡◌, ℕ, ◌&&◌, Bool, true, false, List, [], ◌∷◌, ◌++◌, length, Option, Some, None, if◌then◌else◌}
-use Rattle.std.proofs.Common.{refl, ap, sym, subst, ◌∙◌, inl, inr}
+use Rattle.std.proofs.Common.{refl, ap, sym, subst, ◌∙◌, inl, inr, append-nil}
 use Rattle.std.proofs.lemmas.Bool.{cases_Bool}
 use Rattle.xv_base.specs.declared.answer.Turn.TheVariants.{Done, Queued, Faulted, Wait as Waits, Failed as Broke}
 use Rattle.xv_base.specs.declared.answer.Why.{Why}
@@ -141,6 +141,8 @@ happened s u e a w d r fit goes answers is =
       contents = λ both.
           let has = is.bytes both in
           joined-contents u d has.streams has.reads has.source.part has.dest.part ∙ sym is.moved;
+      read = [];
+      behind = is.reads ∙ sym (append-nil s.reads);
       reads_long =
           ap (λ (ns : List ℕ). length ns) is.reads ∙ r.reads_long ∙ ap (λ (h : List Ended). length (reads job h (length h))) (sym long)
           ∙ ap (λ (x : View). length (reads job x.history (length x.history))) (sym is.next);

@@ -59,6 +59,8 @@ pub record Operates (s : State) (e : Event) (a : Turn) (h : List Ended) (source 
   pub source_layout : source.told.shape ≡ s.source.told.shape
   pub dest_layout : dest.told.shape ≡ s.dest.told.shape
   pub contents : both_tell s ≡ true → contents_of (operated s e a h source dest bytes) ≡ step_contents (job_of s.job) (view s) e (is_flagged a) (contents_of s)
+  pub read : List ℕ
+  pub behind : bytes ≡ s.reads ++ read
   pub more_read : length bytes ≡ length (reads (job_of s.job) w.history (length w.history))
   pub calls : OneCall (outside (job_of s.job) (view s) e) (is_flagged a) s (operated s e a h source dest bytes)
 
@@ -87,6 +89,8 @@ happened s e a h source dest bytes w r carried x =
       };
       shows = subst (λ (u : View). shown t u ≡ u) (sym x.stepped) (joined t w x.rest.longer x.rest.stun x.rest.phase x.rest.streams x.rest.acks x.of_source.part x.of_dest.part);
       contents = x.contents;
+      read = x.read;
+      behind = x.behind;
       reads_long = subst (λ (u : View). length bytes ≡ length (reads (job_of s.job) u.history (length u.history))) (sym x.stepped) x.more_read;
       calls = x.calls;
       carried = carried;

@@ -50,7 +50,7 @@ takes-first [] was now p q = omega arith
 takes-first (p ∷ ps) was now e q = omega arith
 
 -- all that is carried is in transit, where nothing is gathered
-in-transit : (s : Shape) (format : ℕ) (l : LaneSeen) → IsCarried s format l → l.gathered ≡ [] → length l.wire.transit ≡ total (lengths format l.groups)
+pub in-transit : (s : Shape) (format : ℕ) (l : LaneSeen) → IsCarried s format l → l.gathered ≡ [] → length l.wire.transit ≡ total (lengths format l.groups)
 in-transit s format l h none = omega (arith, h.bytes, ap length none, total-lengths format l.groups)
 
 if-not : {A : Type 0} (failed : Bool) (x y z : A) → z ≡ (if failed then x else y) → failed ≡ false → z ≡ y
@@ -115,7 +115,7 @@ wants-ack : (have : ℕ) (counts : List ℕ) → have ≡ 0 → 0 < length (acks
 wants-ack have [] e h = absurd (omega arith)
 wants-ack have (n ∷ ns) e h = omega arith
 
-back-in-transit : (r : Returned) → AreCarried r → r.gathered ≡ [] → length r.wire.transit ≡ total (acks r.counts)
+pub back-in-transit : (r : Returned) → AreCarried r → r.gathered ≡ [] → length r.wire.transit ≡ total (acks r.counts)
 back-in-transit r h none = omega (arith, h.bytes, ap length none, total-acks r.counts)
 
 pub back-takes : (failed : Bool) (old new : Returned) → AreCarried old → AreCarried new → TakesFirst failed old new

@@ -71,7 +71,7 @@ unfailed-by None true true job v e none is on h = absurd (false≢true (sym (fai
 unfailed-by None true false job v e none is on h = absurd (false≢true (is ∙ are-calls (call job v e) on))
 
 -- what a stream shows of its groups
-heads-at : (lanes : List LaneSeen) (k : ℕ) → get_or (heads_on lanes) k [] ≡ map heads_of (get_or lanes k no_lane).groups
+pub heads-at : (lanes : List LaneSeen) (k : ℕ) → get_or (heads_on lanes) k [] ≡ map heads_of (get_or lanes k no_lane).groups
 heads-at [] k = refl
 heads-at (l ∷ ls) zero = refl
 heads-at (l ∷ ls) (suc k) = heads-at ls k

@@ -58,7 +58,7 @@ all-true false y m l e f g = absurd (cc)
 all-true true false m l e f g = absurd (cc)
 all-true true true true l e f g = absurd (cc)
 
-none-there : (x m l : Bool) (n : ℕ) → n ≡ 0 → (x && ((nat_lt 0 n && not m) && l)) ≡ false
+pub none-there : (x m l : Bool) (n : ℕ) → n ≡ 0 → (x && ((nat_lt 0 n && not m) && l)) ≡ false
 none-there x m l n e = and_right x ((nat_lt 0 n && not m) && l) (ap (λ (k : ℕ). (nat_lt 0 k && not m) && l) e)
 
 front-is : (pieces left : ℕ) (met : Bool) → left ≤ pieces → met ≡ false → pieces + 1 - left ≡ (pieces - left) + bit met + 1

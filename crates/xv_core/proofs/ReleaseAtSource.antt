@@ -1,6 +1,6 @@
 -- The write at the front of a queue happened to the migration: it was done, or its call failed.
 use Rattle.std.specs.Prelude.{◌≡◌, ◌<◌, length, is_none, ℕ, Bool, true, false, List, [], ◌∷◌, ◌++◌, get_or, Option, Some, None, is_some, if◌then◌else◌}
-use Rattle.std.proofs.Common.{arith, refl, ap, sym, subst, ◌∙◌}
+use Rattle.std.proofs.Common.{arith, refl, ap, sym, subst, ◌∙◌, append-nil}
 use Rattle.xv_base.specs.declared.answer.Note.{Note}
 use Rattle.xv_base.specs.declared.answer.Turn.TheVariants.{Done, Queued, Faulted, Wait as Waits, Failed as Broke}
 use Rattle.xv_base.specs.declared.event.Event.TheVariants.{Release}
@@ -158,6 +158,8 @@ release-done s d n new op w x =
       source_layout = ap (λ (told : Told). told.shape) made.told;
       dest_layout = refl;
       contents = λ both. done-contents s d n new op w x goes both;
+      read = [];
+      behind = sym (append-nil s.reads);
       more_read = read-after s d WasDone w x.running x.first (one-write s d (Done n) new op w x (release_goes job v d false goes).some_queue);
       calls = release-calls s t d false op x.next x.writes (calls-source s.source.shape op op.write false s t made refl refl refl);
     })
@@ -192,6 +194,8 @@ release-faulted s d new op w x =
       source_layout = ap (λ (told : Told). told.shape) made.told;
       dest_layout = refl;
       contents = λ both. joined-contents t c refl refl (x.steps.failed_bytes c refl (has_source_bytes s both)).part (has_dest_bytes s both).part ∙ sym kept;
+      read = [];
+      behind = sym (append-nil s.reads);
       more_read = read-after s d HasFaulted w x.running x.first (one-write s d Faulted new op w x (release_goes job v d true goes).some_queue);
       calls = release-calls s t d true op x.next x.writes (calls-source s.source.shape op op.write true s t made refl refl refl);
     })

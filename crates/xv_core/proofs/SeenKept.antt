@@ -100,6 +100,8 @@ kept-at s i =
         wires = wires-hold s i both;
         reads = (i.running.contents both).reads_are;
       };
+      source_layout = i.running.parts.source_layout;
+      dest_layout = i.running.parts.dest_layout;
       way_back = i.carried.back.stand ∙ ap (λ (counts : List ℕ). all_spelled (map AckFrame counts)) (sym (shows s i.running).acks);
       gathered = λ k live. ap (λ (w : OnWire). w.gathered) (wire-is s.streams.lanes k) ∙ i.pieces.gathered k (sym (ap is_live (shows s i.running).phase) ∙ live);
       counts = i.counts;

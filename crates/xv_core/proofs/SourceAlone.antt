@@ -1,6 +1,6 @@
 -- An event that touches the source's half alone: from what the half ensures of it to what happened to the migration.
 use Rattle.std.specs.Prelude.{◌≡◌, ℕ, ◌&&◌, Bool, true, false, List, [], ◌∷◌, ◌++◌, length, Option, Some, None, unwrap_or, if◌then◌else◌}
-use Rattle.std.proofs.Common.{refl, ap, sym, subst, ◌∙◌, inl, inr}
+use Rattle.std.proofs.Common.{refl, ap, sym, subst, ◌∙◌, inl, inr, append-nil}
 use Rattle.std.proofs.lemmas.Bool.{cases_Bool}
 use Rattle.xv_base.specs.declared.answer.Turn.TheVariants.{Done, Queued, Faulted, Wait as Waits, Failed as Broke}
 use Rattle.xv_base.specs.declared.answer.Why.{Why}
@@ -113,6 +113,8 @@ happens s e a half phase stun r carried fit goes answers is =
       contents = λ both.
           joined-contents t (step_contents job (view s) e (is_flagged a) (contents_of s)) is.bytes.streams is.bytes.reads (is.has both).part
           (dest-bytes-stay (contents_of s) (step_contents job (view s) e (is_flagged a) (contents_of s)) s.dest refl is.bytes.dest is.bytes.held);
+      read = [];
+      behind = sym (append-nil s.reads);
       reads_long = r.reads_long ∙ ap (λ (h : List Ended). length (reads job h (length h))) (sym is.rest.history);
       calls = is.calls;
       carried = carried;

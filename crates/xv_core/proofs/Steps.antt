@@ -1,11 +1,13 @@
 -- An event that happened, and a wait, are steps as contracts see them.
 use Rattle.std.specs.Prelude.{◌≡◌, ◌≤◌, ℕ, ◌+◌, Bool, true, false, List, [], ◌∷◌, ◌++◌, length, map, Option, Some, None, if◌then◌else◌}
 use Rattle.std.proofs.Common.{refl, sym, ap, subst, ◌∙◌, arith, append-nil}
+use Rattle.std.proofs.lemmas.List.{length-map}
 use Rattle.xv_base.specs.declared.answer.Turn.TheVariants.{Wait as Waits}
+use Rattle.xv_model.specs.Guest.{read_bytes}
 use Rattle.xv_model.specs.View.{View}
 use Rattle.xv_model.specs.Wait.{Event, Why, wait}
 use Rattle.xv_model.specs.Effect.{Turn}
-use Rattle.xv_model.specs.Step.{Entry, Put, Take, AckPut, AckTake, turn, turn_by, breaks, entry_of, is_flagged, is_wait}
+use Rattle.xv_model.specs.Step.{Entry, Put, Take, AckPut, AckTake, step, view_by, turn, turn_by, breaks, entry_of, is_flagged, is_wait}
 use Rattle.xv_model.specs.Outside.{outside}
 use Rattle.xv_wire.specs.Told.{Told as WireTold}
 use Rattle.xv_wire.specs.Wire.{Counted as WireCounted}
@@ -13,16 +15,21 @@ use Rattle.xv_streams.specs.Streamed.{Streamed, LaneSeen}
 use Rattle.xv_streams.specs.Returned.{Returned}
 use Rattle.xv_job.specs.Written.{Written, job_of}
 use Rattle.xv_core.specs.Seen.{Seen, OnWire, wire}
-use Rattle.xv_core.specs.State.{State, view, seen_of, on_wire}
+use Rattle.xv_core.specs.State.{State, view, seen_of, on_source, on_dest, on_wire}
 use Rattle.xv_core.specs.Happening.{Happened, OneCall}
 use Rattle.xv_core.specs.Rising.{BothTold, PutsRise, MeetsRise, Rises, TakesRise}
 use Rattle.xv_core.specs.Kept.{IsState}
 use Rattle.xv_core.specs.Waiting.{IsStill, IsStillBack, AreStill, Waited}
-use Rattle.xv_core.specs.Stepped.{IsStep, IsAsBefore, RoseOn, told_by}
+use Rattle.xv_core.specs.Stepped.{IsStep, IsAsBefore, RoseOn, ReadsMore, told_by}
 use Rattle.xv_core.proofs.Stays.{all-carried}
 use Rattle.xv_core.proofs.CountingRises.{rises, both-same}
 use Rattle.xv_core.proofs.PlansRise.{takes-rise}
 use Rattle.xv_core.proofs.Causes.{flagged-calls, rose}
+use Rattle.xv_core.proofs.DestKept.{unwritten-kept}
+use Rattle.xv_core.proofs.Keeps.{source-tells, dest-tells}
+use Rattle.xv_core.proofs.Numbered.{source-holds, dest-holds}
+use Rattle.xv_core.proofs.ReadsBehind.{past-reads-none, reads-behind}
+use Rattle.xv_core.proofs.TakesFind.{finds-some}
 use Rattle.xv_core.proofs.Waits.{still-map, told-same, faults-rise}
 
 one-entry : (e : Event) (a : Turn) → is_wait a ≡ false → record { event = e; turn = a } ∷ [] ≡ entry_of e a
@@ -39,6 +46,16 @@ seen-steps s t e a k h =
       rises = rises s t e a h k.running k.source_numbers k.dest_numbers;
       takes_rise = takes-rise s t e a h k.running (all-carried job s k.running.parts k.carried) (all-carried job t h.parts h.carried) k.pieces;
       cause = λ flagged. rose (outside job (view s) e) s t (flagged-calls job (view s) e a h.answers flagged) (subst (λ (f : Bool). OneCall (outside job (view s) e) f s t) flagged h.calls);
+      unwritten = record { units = λ unit none. unwritten-kept s t e a unit k.running h none };
+      reads = reads-behind s t e a k.running h;
+      finds = finds-some s t e a k h;
+      tells = record {
+        source = source-tells (outside job (view s) e) (is_flagged a) (on_source s.source) (on_source t.source) h.calls.source;
+        dest = dest-tells (outside job (view s) e) (is_flagged a) (on_dest s.dest) (on_dest t.dest) h.calls.dest;
+        source_units = source-holds (outside job (view s) e) (is_flagged a) (on_source s.source) (on_source t.source) h.calls.source;
+        dest_units = dest-holds (outside job (view s) e) (is_flagged a) (on_dest s.dest) (on_dest t.dest) h.calls.dest;
+        wires = length-map t.streams.lanes on_wire ∙ h.parts.each_stream ∙ sym k.running.parts.each_stream ∙ sym (length-map s.streams.lanes on_wire);
+      };
     }
   where
     waited : is_wait a ≡ true → ⊥
@@ -107,6 +124,25 @@ module _ (s : State) (x : Streamed) (y : Returned) (same : x ≡ record s.stream
     back = back-still-told;
   }
 
+  as-many : length (map on_wire x.lanes) ≡ length (map on_wire s.streams.lanes)
+  as-many =
+      sym (length-map (map on_wire x.lanes) told_by)
+      ∙ ap (λ (ws : List OnWire). length ws) as-before.wires
+      ∙ length-map (map on_wire s.streams.lanes) told_by
+
+  none-read : (e : Event) (why : Why) → wait (job_of s.job) (view s) e false ≡ Some why → ReadsMore (seen_of s) e (Waits why) (seen_of (record s { streams = x; back = y }))
+  none-read e why is =
+      let job = job_of s.job in
+      let v = view s in
+      let stays : step job v e false ≡ v = ap (λ (w : Option Why). view_by w (breaks job v e false) job v e) is in
+      let none : read_bytes job (step job v e false).history (length v.history) ≡ [] = ap (λ (u : View). read_bytes job u.history (length v.history)) stays ∙ past-reads-none job v.history in
+      record {
+        bytes = [];
+        behind = sym (append-nil s.reads);
+        long = ap (λ (bytes : List ℕ). length bytes) (sym none);
+        few = omega arith;
+      }
+
   wait-step : (e : Event) (why : Why) → wait (job_of s.job) (view s) e false ≡ Some why → IsStep (seen_of s) e (Waits why) (seen_of (record s { streams = x; back = y }))
   wait-step e why is = record {
     job = refl;
@@ -116,6 +152,10 @@ module _ (s : State) (x : Streamed) (y : Returned) (same : x ≡ record s.stream
     rises = rises-none;
     takes_rise = takes-none;
     cause = λ flagged. absurd (cc);
+    unwritten = record { units = λ unit none. refl };
+    reads = none-read e why is;
+    finds = λ plans flagged. absurd (cc);
+    tells = record { source = refl; dest = refl; source_units = refl; dest_units = refl; wires = as-many };
   }
 
 pub wait-seen : (s t : State) (e : Event) (why : Why) → wait (job_of s.job) (view s) e false ≡ Some why → Waited s t → IsStep (seen_of s) e (Waits why) (seen_of t)

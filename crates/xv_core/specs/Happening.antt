@@ -69,7 +69,8 @@ pub record OneCall (call : Outside) (failed : Bool) (s t : State) : Type 0 where
   pub back : CallsBack call failed s.back t.back
 
 -- An event happened: it was answered as the machine answers it, the journal has it as its last entry, the parts show the
--- view after it, they have the contents after it, and exactly its call was made.
+-- view after it, they have the contents after it, the bytes that it read come behind those read before, and exactly its
+-- call was made.
 pub record Happened (s : State) (event : Event) (answer : Turn) (t : State) : Type 0 where
   pub job : t.job ≡ s.job
   pub fitting : fits (job_of s.job) event ≡ true
@@ -79,6 +80,8 @@ pub record Happened (s : State) (event : Event) (answer : Turn) (t : State) : Ty
   pub parts : ArePartsOf (job_of s.job) t.source t.dest t.streams t.back
   pub shows : shown t (step (job_of s.job) (view s) event (is_flagged answer)) ≡ step (job_of s.job) (view s) event (is_flagged answer)
   pub contents : both_tell s ≡ true → contents_of t ≡ step_contents (job_of s.job) (view s) event (is_flagged answer) (contents_of s)
+  pub read : List ℕ
+  pub behind : t.reads ≡ s.reads ++ read
   pub reads_long : length t.reads ≡ length (reads (job_of s.job) (step (job_of s.job) (view s) event (is_flagged answer)).history (length (step (job_of s.job) (view s) event (is_flagged answer)).history))
   pub calls : OneCall (outside (job_of s.job) (view s) event) (is_flagged answer) s t
   pub carried : IsCarriedOver t.streams t.back

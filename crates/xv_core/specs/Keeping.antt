@@ -42,14 +42,16 @@ pub record HoldsGuest (m : Seen) : Type 0 where
   pub reads : m.reads ≡ reads (job_of m.job) (view_of m).history (length (view_of m).history)
 
 -- the journal is a run of the job, the view that it ends in meets the view invariant, the contents hold where both devices
--- tell them, the way back has the acknowledgements, bytes are gathered only where a take has failed, and what is counted
--- and planned agrees with the journal
+-- tell them, both devices have the job's layout, the way back has the acknowledgements, bytes are gathered only where a take
+-- has failed, and what is counted and planned agrees with the journal
 pub record IsKept (m : Seen) : Type 0 where
   pub good : IsGoodJob (job_of m.job)
   pub fitting : list_all (λ e. fits (job_of m.job) e.event) m.journal ≡ true
   pub is_run : is_run (job_of m.job) m.journal ≡ true
   pub view : IsViewOf (job_of m.job) (view_of m)
   pub contents : (tells m.source && tells m.dest) ≡ true → HoldsGuest m
+  pub source_layout : m.source.told.shape ≡ (job_of m.job).shape
+  pub dest_layout : m.dest.told.shape ≡ (job_of m.job).shape
   pub way_back : m.back.gathered ++ m.back.told.transit ≡ all_spelled (map AckFrame (view_of m).acks)
   pub gathered : (s : ℕ) → is_live (view_of m).phase ≡ true → (wire m s).gathered ≡ []
   pub counts : CountsFit m

@@ -1,9 +1,7 @@
 -- What one step of a migration does, as contracts see it.
-use Rattle.std.specs.Prelude.{◌≡◌, ◌≤◌, ℕ, ◌+◌, ◌-◌, ◌^◌, ◌<◌, ◌&&◌, min, Bool, true, false, List, ◌++◌, map, length, None, is_some, IfSome, if◌then◌else◌}
+use Rattle.std.specs.Prelude.{◌≡◌, ◌≤◌, ℕ, ◌+◌, ◌-◌, ◌^◌, ◌&&◌, min, Bool, true, false, List, ◌++◌, map, length, None, is_some}
 use Rattle.std.specs.List.{list_all}
-use Rattle.xv_model.specs.Job.{Job, unit_count}
 use Rattle.xv_model.specs.Guest.{read_bytes}
-use Rattle.xv_model.specs.View.{View, number, is_switched}
 use Rattle.xv_model.specs.Wait.{Event, wait}
 use Rattle.xv_model.specs.Effect.{Turn}
 use Rattle.xv_model.specs.Step.{turn, step, entry_of, is_flagged, is_wait}
@@ -66,14 +64,19 @@ abbrev pub FindsSome : Seen → Event → Turn → Type 0
 FindsSome old event answer =
     tells_plans old ≡ true → is_flagged answer ≡ true → wait (job_of old.job) (view_of old) event false ≡ None
 
--- a device that tells what it holds goes on to tell it, and one that does not tells nothing
+-- a device that tells what it holds goes on to tell it, of as many units, and one that does not tells nothing; there are as
+-- many wires
 pub record TellsOn (old new : Seen) : Type 0 where
   pub source : tells new.source ≡ tells old.source
   pub dest : tells new.dest ≡ tells old.dest
+  pub source_units : length (told_contents new.source) ≡ length (told_contents old.source)
+  pub dest_units : length (told_contents new.dest) ≡ length (told_contents old.dest)
+  pub wires : length new.wires ≡ length old.wires
 
 -- One step: the answer is the machine's, where a call on the outside fails or not; the journal has one entry more, or as
 -- many as before where the event waits; a wait changes nothing; all that is counted rises by the journal's calls, and no
--- count of faults falls; and an answer that a call failed comes only where the count of faults of its object rose.
+-- count of faults falls; an answer that a call failed comes only where the count of faults of its object rose; what is not
+-- written stays, what is read comes behind, and the devices tell on.
 pub record IsStep (old : Seen) (event : Event) (answer : Turn) (new : Seen) : Type 0 where
   pub job : new.job ≡ old.job
   pub answers : answer ≡ turn (job_of old.job) (view_of old) event (is_flagged answer)
@@ -82,3 +85,7 @@ pub record IsStep (old : Seen) (event : Event) (answer : Turn) (new : Seen) : Ty
   pub rises : Rises old new
   pub takes_rise : TakesRise old new
   pub cause : is_flagged answer ≡ true → RoseOn (outside (job_of old.job) (view_of old) event) old new
+  pub unwritten : KeepsUnwritten old new
+  pub reads : ReadsMore old event answer new
+  pub finds : FindsSome old event answer
+  pub tells : TellsOn old new

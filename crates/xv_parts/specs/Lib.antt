@@ -1,3 +1,4 @@
 pub mod Plans
+pub mod Kinds
 pub mod Memory
 pub mod Sides

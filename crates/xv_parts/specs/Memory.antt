@@ -5,7 +5,7 @@ use Rattle.xv_base.specs.declared.pattern.Init.{Init}
 use Rattle.xv_device.specs.Device.{Plan as DevicePlan}
 use Rattle.xv_device.specs.Memory.{fresh as fresh_device, told as told_device}
 use Rattle.xv_wire.specs.Wire.{Plan as WirePlan}
-use Rattle.xv_wire.specs.Memory.{fresh as fresh_pipe, told as told_pipe}
+use Rattle.xv_wire.specs.Memory.{Pipe, fresh as fresh_pipe, told as told_pipe}
 use Rattle.xv_job.specs.Written.{Written, job_of}
 use Rattle.xv_core.specs.Seen.{Seen, OnDevice, OnWire}
 use Rattle.xv_core.specs.Beginning.{stream_room, back_room, fresh_wire, begun}
@@ -18,9 +18,16 @@ use Rattle.xv_parts.specs.Plans.{source_plan, dest_plan, stream_plan, back_plan}
 abbrev pub device_begun : Written → List Init → DevicePlan → OnDevice
 device_begun w init plan = record { told = told_device (fresh_device w.shape init plan); faults = 0 }
 
--- a wire on which nothing was put, whose takes give at most 700 bytes
+-- a wire on which nothing was put, whose takes give at most 700 bytes; for a stream, one with its own plan
+abbrev pub pipe_begun : ℕ → WirePlan → Pipe
+pipe_begun room plan = fresh_pipe room 700 plan
+
+abbrev pub stream_pipe : Written → ℕ → Pipe
+stream_pipe w s = pipe_begun (stream_room (job_of w)) (stream_plan w.faults s)
+
+-- and how they are seen
 abbrev pub wire_begun : ℕ → WirePlan → OnWire
-wire_begun room plan = fresh_wire (told_pipe (fresh_pipe room 700 plan)) 0
+wire_begun room plan = fresh_wire (told_pipe (pipe_begun room plan)) 0
 
 abbrev pub stream_begun : Written → ℕ → OnWire
 stream_begun w s = wire_begun (stream_room (job_of w)) (stream_plan w.faults s)

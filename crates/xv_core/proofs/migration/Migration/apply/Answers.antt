@@ -6,7 +6,11 @@ use Rattle.xv_core.proofs.CountsRoom.{dest-countable}
 use Rattle.xv_core.proofs.MovedByDest.{after_apply}
 use Rattle.xv_core.proofs.MovedEvents.{apply-of, none-seen, apply-live}
 use Rattle.xv_core.proofs.MovedSettled.{room-for, stays-settled, steps-settled, rooms-stay}
+use Rattle.xv_core.proofs.OperationSteps.{stays-waiting}
 use Rattle.xv_core.proofs.migration.Migration.apply.Goals as goal
+
+pub returns-in-Some : goal.returns-in-Some
+returns-in-Some g c = stays-waiting _ c.args.self.now _ c.in-Some.why c.self.invariant.0 c.self.view_is (sym c.apply_wait.ensures ∙ c.in-Some.is)
 
 pub apply-turn-requires-clause-few : goal.apply-turn-requires-clause-few
 apply-turn-requires-clause-few g c =

@@ -5,7 +5,11 @@ use Rattle.xv_core.proofs.CountsRoom.{dest-countable}
 use Rattle.xv_core.proofs.MovedByDest.{after_switch}
 use Rattle.xv_core.proofs.MovedEvents.{switch-of, none-seen}
 use Rattle.xv_core.proofs.MovedSettled.{room-for, stays-settled, steps-settled, rooms-stay}
+use Rattle.xv_core.proofs.OperationSteps.{stays-waiting}
 use Rattle.xv_core.proofs.migration.Migration.switch.Goals as goal
+
+pub returns-in-Some : goal.returns-in-Some
+returns-in-Some g c = stays-waiting _ c.args.self.now _ c.in-Some.why c.self.invariant.0 c.self.view_is (sym c.switch_wait.ensures ∙ c.in-Some.is)
 
 pub flush-turn-requires : goal.flush-turn-requires
 flush-turn-requires g c =

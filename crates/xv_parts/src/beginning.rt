@@ -1,0 +1,105 @@
+//! How a migration begins in memory.
+
+ghost use Rattle.std.specs.Prelude.{◌≡◌, ◌≤◌, ◌<◌, ℕ, length, map, get_or, IfOk};
+ghost use Rattle.std.specs.List.{range_with_len};
+ghost use Rattle.xv_base.specs.Units.{units};
+ghost use Rattle.xv_device.specs.Memory.{fresh as fresh_device, told as told_device, no_init};
+ghost use Rattle.xv_job.specs.Written.{job_of};
+ghost use Rattle.xv_core.specs.Beginning.{IsDeviceFor, stream_room, back_room};
+ghost use Rattle.xv_parts.specs.Plans.{back_plan};
+ghost use Rattle.xv_parts.specs.Memory.{pipe_begun, stream_pipe, begun_in_memory};
+
+use crate::plans::{back_plan, dest_plan, source_plan, stream_plan};
+use std::alloc::Global;
+use xv_base::{Init, NoMemory};
+use xv_core::Migration;
+use xv_device::{DevicePlan, MemDevice};
+use xv_job::Job;
+use xv_wire::MemWire;
+
+/// The migration over devices and wires in memory.
+pub type Machine = Migration<MemDevice, MemDevice, MemWire>;
+
+/// The greatest number of bytes that a take gives.
+const PIECE: u32 = 700;
+
+/// A migration of this job over devices and wires in memory, in which nothing has happened. The source begins with the
+/// job's contents, and the destination with zeros; a call fails where the job's faults name its number.
+/// Errors: want of memory.
+pub fn begin(alloc: Global, job: Job) -> Result<Machine, NoMemory>
+    ensures begun { IfOk result (λ machine. machine ≡ begun_in_memory job) }
+{
+    let source = device(alloc, &job, &job.init, source_plan(alloc, &job.faults)?)?;
+    let dest = device(alloc, &job, &[], dest_plan(alloc, &job.faults)?)?;
+    let streams = streams(alloc, &job)?;
+    let back = way_back(alloc, &job)?;
+    match Migration::start(alloc, job, source, dest, streams, back) {
+        Ok(machine) => Ok(machine),
+        Err(_parts) => Err(NoMemory),
+    }
+}
+
+/// A device over the job's units, which begin so.
+fn device(
+    alloc: Global,
+    job: &Job,
+    init: &[Init],
+    plan: DevicePlan,
+) -> Result<MemDevice, NoMemory>
+    requires { (i : ℕ) → i < length init.now → (get_or init.now i no_init).unit.0 < units job.now.shape }
+    ensures fresh { IfOk result (λ device. device ≡ fresh_device job.now.shape init.now plan) }
+    ensures fits { IfOk result (λ device. IsDeviceFor (job_of job.now) (told_device device)) }
+{
+    let device = MemDevice::new(alloc, &job.layout, init, plan)?;
+    // That each unit's content has the unit's size is told with the layout.
+    let _ = device.layout();
+    Ok(device)
+}
+
+/// A wire for each stream of the job, in their order.
+fn streams(alloc: Global, job: &Job) -> Result<Vec<MemWire>, NoMemory>
+    ensures { IfOk result (λ wires. wires.items ≡ map (stream_pipe job.now) (range_with_len 0 job.now.config.streams)) }
+{
+    let mut wires = Vec::new(alloc);
+    for stream in 0..job.config.streams {
+        let Ok(()) = wires.push(stream_wire(alloc, job, stream)?) else {
+            return Err(NoMemory);
+        };
+    }
+    Ok(wires)
+}
+
+/// The wire of a stream, with room for the whole credit in frames of the greatest unit.
+fn stream_wire(alloc: Global, job: &Job, stream: u8) -> Result<MemWire, NoMemory>
+    ensures { IfOk result (λ wire. wire ≡ stream_pipe job.now stream) }
+{
+    let plan = stream_plan(alloc, &job.faults, stream)?;
+    MemWire::new(alloc, stream_room(job), PIECE, plan)
+}
+
+/// The wire back, with room for the whole credit in acknowledgements.
+fn way_back(alloc: Global, job: &Job) -> Result<MemWire, NoMemory>
+    ensures { IfOk result (λ wire. wire ≡ pipe_begun (back_room (job_of job.now)) (back_plan job.now.faults)) }
+{
+    let plan = back_plan(alloc, &job.faults)?;
+    MemWire::new(alloc, back_room(job), PIECE, plan)
+}
+
+/// How many bytes a stream's wire has room for.
+fn stream_room(job: &Job) -> u32
+    ensures exactly { result ≡ stream_room (job_of job.now) }
+    ensures a_frame { 24 ≤ result }
+{
+    let _ = job.operations();
+    let head = if job.format == 1 { 24 } else { 44 };
+    job.config.credit * (head + job.layout.max_size())
+}
+
+/// How many bytes the wire back has room for.
+fn back_room(job: &Job) -> u32
+    ensures exactly { result ≡ back_room (job_of job.now) }
+    ensures a_frame { 24 ≤ result }
+{
+    let _ = job.operations();
+    24 * job.config.credit
+}
