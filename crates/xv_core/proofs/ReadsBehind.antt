@@ -1,6 +1,6 @@
 -- The bytes that an event reads for its guest come behind those read before, and are as many as its entry reads.
 use Rattle.std.specs.Prelude.{◌≡◌, ◌≤◌, ℕ, suc, ◌+◌, ◌&&◌, Bool, true, false, List, [], ◌∷◌, ◌++◌, length, take, drop, Option, Some, None, is_none, is_some, if◌then◌else◌}
-use Rattle.std.proofs.Common.{arith, refl, ap, sym, subst, inl, inr, append-nil}
+use Rattle.std.proofs.Common.{arith, refl, ap, sym, subst, ◌∙◌, inl, inr, append-nil}
 use Rattle.std.proofs.lemmas.Bool.{cases_lt}
 use Rattle.std.proofs.lemmas.List.{length-append, length-take, get_or_past}
 use Rattle.xv_base.specs.declared.event.Event.TheVariants.{Guest, Release}
@@ -17,10 +17,10 @@ use Rattle.xv_core.specs.Happening.{Happened}
 use Rattle.xv_core.specs.Stepped.{ReadsMore}
 
 -- an event adds one entry to the history, or none
-record AddsOne (old new : List Ended) : Type 0 where
-  added : List Ended
-  longer : new ≡ old ++ added
-  one : length added ≤ 1
+pub record AddsOne (old new : List Ended) : Type 0 where
+  pub added : List Ended
+  pub longer : new ≡ old ++ added
+  pub one : length added ≤ 1
 
 none-added : (h : List Ended) → AddsOne h h
 none-added h = record { added = []; longer = sym (append-nil h); one = omega arith }
@@ -47,7 +47,7 @@ step-adds-by (Some why) broken job v e = none-added v.history
 step-adds-by None false job v e = effect-adds job v e
 step-adds-by None true job v e = fault-adds v e
 
-step-adds : (job : Job) (v : View) (e : Event) (flag : Bool) → AddsOne v.history (step job v e flag).history
+pub step-adds : (job : Job) (v : View) (e : Event) (flag : Bool) → AddsOne v.history (step job v e flag).history
 step-adds job v e flag = step-adds-by (wait job v e flag) (breaks job v e flag) job v e
 
 -- an entry that is not there reads nothing
@@ -61,19 +61,18 @@ past-reads-none job h =
     none-read (is_done (entry h (length h)).outcome) (is_none (operation_at job h (length h)).write) (operation_at job h (length h)) (content job h (operation_at job h (length h)).unit.0 (length h)) (ap (λ (x : Ended). is_done x.outcome) past)
 
 -- what a longer history reads more is what its new entry reads
-reads-added : (job : Job) (h added : List Ended) → length added ≤ 1 → length (reads job (h ++ added) (length (h ++ added))) ≡ length (reads job h (length h)) + length (read_bytes job (h ++ added) (length h))
+reads-added : (job : Job) (h added : List Ended) → length added ≤ 1 → reads job (h ++ added) (length (h ++ added)) ≡ reads job h (length h) ++ read_bytes job (h ++ added) (length h)
 reads-added job h [] one =
     let same : h ++ [] ≡ h = append-nil h in
-    subst (λ (k : List Ended). length (reads job k (length k)) ≡ length (reads job h (length h)) + length (read_bytes job k (length h))) (sym same)
-    (omega (arith, ap (λ (bs : List ℕ). length bs) (past-reads-none job h)))
+    subst (λ (k : List Ended). reads job k (length k) ≡ reads job h (length h) ++ read_bytes job k (length h)) (sym same)
+    (sym (append-nil (reads job h (length h))) ∙ ap (λ (bs : List ℕ). reads job h (length h) ++ bs) (sym (past-reads-none job h)))
 reads-added job h (e ∷ []) one =
     let long : length (push h e) ≡ suc (length h) = omega (arith, length-append h (e ∷ [])) in
-    let grown : length (reads job (push h e) (length (push h e))) ≡ length (reads job (push h e) (length h) ++ read_bytes job (push h e) (length h)) = ap (λ (n : ℕ). length (reads job (push h e) n)) long in
-    omega (arith, grown, length-append (reads job (push h e) (length h)) (read_bytes job (push h e) (length h)), ap (λ (bs : List ℕ). length bs) (reads-push_before job h e (length h) (omega arith)))
+    ap (reads job (push h e)) long ∙ ap (λ (bs : List ℕ). bs ++ read_bytes job (push h e) (length h)) (reads-push_before job h e (length h) (omega arith))
 reads-added job h (e ∷ f ∷ es) one = absurd (omega arith)
 
-reads-more : (job : Job) (h k : List Ended) → AddsOne h k → length (reads job k (length k)) ≡ length (reads job h (length h)) + length (read_bytes job k (length h))
-reads-more job h k adds = subst (λ (x : List Ended). length (reads job x (length x)) ≡ length (reads job h (length h)) + length (read_bytes job x (length h))) (sym adds.longer) (reads-added job h adds.added adds.one)
+pub reads-more : (job : Job) (h k : List Ended) → AddsOne h k → reads job k (length k) ≡ reads job h (length h) ++ read_bytes job k (length h)
+reads-more job h k adds = subst (λ (x : List Ended). reads job x (length x) ≡ reads job h (length h) ++ read_bytes job x (length h)) (sym adds.longer) (reads-added job h adds.added adds.one)
 
 -- an operation of a good job reads at most 64 bytes
 short-by : (op : UnitOp) → (is_some op.write ≡ false → op.len ≤ 64) → (if is_none op.write then op.len else 0) ≤ 64
@@ -108,5 +107,6 @@ reads-behind s t e a r h =
     let v = view s in
     let k = (step job v e (is_flagged a)).history in
     let grown = reads-more job v.history k (step-adds job v e (is_flagged a)) in
-    let long : length h.read ≡ length (read_bytes job k (length v.history)) = omega (arith, grown, r.reads_long, h.reads_long, ap (λ (bs : List ℕ). length bs) h.behind, length-append s.reads h.read) in
+    let long : length h.read ≡ length (read_bytes job k (length v.history)) =
+    omega (arith, ap (λ (bs : List ℕ). length bs) grown, length-append (reads job v.history (length v.history)) (read_bytes job k (length v.history)), r.reads_long, h.reads_long, ap (λ (bs : List ℕ). length bs) h.behind, length-append s.reads h.read) in
     record { bytes = h.read; behind = h.behind; long = long; few = omega (arith, long, few-bytes job k (length v.history) r.good) }

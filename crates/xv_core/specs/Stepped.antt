@@ -75,8 +75,9 @@ pub record TellsOn (old new : Seen) : Type 0 where
 
 -- One step: the answer is the machine's, where a call on the outside fails or not; the journal has one entry more, or as
 -- many as before where the event waits; a wait changes nothing; all that is counted rises by the journal's calls, and no
--- count of faults falls; an answer that a call failed comes only where the count of faults of its object rose; what is not
--- written stays, what is read comes behind, and the devices tell on.
+-- count of faults falls; an answer that a call failed comes only where the count of faults of its object rose, and where
+-- plans are told only where there was something to do; what is not written stays, what is read comes behind what was read,
+-- and the devices tell on.
 pub record IsStep (old : Seen) (event : Event) (answer : Turn) (new : Seen) : Type 0 where
   pub job : new.job ≡ old.job
   pub answers : answer ≡ turn (job_of old.job) (view_of old) event (is_flagged answer)

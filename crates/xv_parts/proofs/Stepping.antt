@@ -15,14 +15,14 @@ use Rattle.xv_model.proofs.OneMore.{run-one, calls-one, is_faithful-one}
 use Rattle.xv_core.proofs.MovedSettled.{wait-unflagged}
 
 -- an event that goes on is answered by no wait, and not flagged where its call did not fail
-abbrev IsPlain : Turn → Type 0
+abbrev pub IsPlain : Turn → Type 0
 IsPlain a = (is_wait a ≡ false) × (is_flagged a ≡ false)
 
 plain-if : (c : Bool) (a b : Turn) → IsPlain a → IsPlain b → IsPlain (if c then a else b)
 plain-if true a b h k = h
 plain-if false a b h k = k
 
-plain-answer : (job : Job) (v : View) (e : Event) → IsPlain (answer job v e)
+pub plain-answer : (job : Job) (v : View) (e : Event) → IsPlain (answer job v e)
 plain-answer job v (Guest g) = plain-if (is_join (next_aim job v g.0)) Queued _ (refl, refl) (refl, refl)
 plain-answer job v (Begin d) = (refl, refl)
 plain-answer job v (Read d) = (refl, refl)

@@ -7,6 +7,11 @@
 #![tactic(auto)]
 
 mod beginning;
+mod laws;
 mod plans;
 
 pub use beginning::{Machine, begin};
+pub use laws::{
+    begins_in_memory, planned_calls_fail_alone, reads_are_the_guests, sides_are_the_guests,
+    steps_are_planned, steps_stay_in_memory, writes_are_the_guests,
+};
