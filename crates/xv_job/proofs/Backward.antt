@@ -169,7 +169,7 @@ good_job w f l fits = record {
   fault_numbers = l.good_faults;
 }
 
-good_written : (w : Written) → IsFixed w → IsListed 14 w → exceeds w.config.cancel (operations_so_far w) ≡ false → IsGoodWritten w
+pub good_written : (w : Written) → IsFixed w → IsListed 14 w → exceeds w.config.cancel (operations_so_far w) ≡ false → IsGoodWritten w
 good_written w f l fits = record {
   limits = good_job w f l fits;
   operations = λ guest. all_at (IsGoodOp w.shape) (ops w guest) no_op (ops_at w.shape w.traces l.good_ops guest);

@@ -16,3 +16,7 @@ pub mod Counted
 pub mod Few
 pub mod Progress
 pub mod Printed
+pub mod MadeOps
+pub mod MadeCount
+pub mod MadeGood
+pub mod MadeParts

@@ -4,3 +4,4 @@ pub mod Draft
 pub mod JobText
 pub mod Held
 pub mod Texts
+pub mod Made

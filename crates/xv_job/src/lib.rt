@@ -4,7 +4,7 @@
 // trace has as they are written; `job_of` gives the job that the machine runs, with unit operations. The layer above may
 // rely on this: every job keeps the limits of a job, and its operations may act. What is read from a text is the job
 // whose text begins it, and the text of each job is read as that job, in either job format; else the first faulty line
-// is told.
+// is told. `make_job` makes the one large job of a number.
 
 #![tactic(auto)]
 
@@ -15,6 +15,7 @@ mod laws;
 mod limits;
 mod line;
 mod machine;
+mod made;
 mod planned;
 mod print;
 mod reading;
@@ -23,9 +24,12 @@ mod word;
 
 pub use job::Job;
 pub use laws::{jobs_are_read_back, texts_begin_with_one_job, texts_say_jobs};
+pub use made::make_job;
 pub use print::print_job;
 pub use reading::{Place, read_job};
 pub use word::{Call, Word};
 
+#[cfg(test)]
+mod made_tests;
 #[cfg(test)]
 mod tests;
