@@ -1,0 +1,5 @@
+pub mod Listed
+pub mod Able
+pub mod Goes
+pub mod Driving
+pub mod Following
