@@ -1,9 +1,9 @@
-pub mod Plain
-pub mod Entries
-pub mod Scripts
+pub mod Later
 pub mod Played
+pub mod Replayed
 pub mod Inputs
 pub mod Results
 pub mod Always
+pub mod Ran
 pub mod Refusals
 pub mod Handovers

@@ -1,16 +1,13 @@
 -- An input is refused as its job, or behind it as its script.
-use Rattle.std.proofs.Common.{◌≡◌, ℕ, ◌+◌, ◌<◌, ◌≤◌, Bool, true, false, List, [], ◌∷◌, ◌++◌, length, length-append, drop, ◌==◌, Option, Some, None, refl, sym, ap, ◌∙◌, subst, arith, if◌then◌else◌}
+use Rattle.std.proofs.Common.{◌≡◌, ℕ, ◌+◌, ◌<◌, ◌≤◌, Bool, true, false, List, [], ◌∷◌, ◌++◌, length, length-append, drop, ◌==◌, Option, Some, None, refl, ap, ◌∙◌, arith}
 use Rattle.std.specs.Prelude.{nat_lt}
 use Rattle.std.proofs.Math.Seq.{drop-append_seam}
 use Rattle.std.proofs.lemmas.List.{length-map}
 use Rattle.xv_base.specs.declared.text.LineWhy.TheVariants.{Limit}
 use Rattle.xv_base.specs.declared.text.LineFault.{LineFault}
 use Rattle.xv_text.specs.Lines.{lines_of, has_rest, whole_lines, before_first, fields}
-use Rattle.xv_text.specs.Reading.{first_fault, last_state, line_count}
+use Rattle.xv_text.specs.Reading.{first_fault}
 use Rattle.xv_job.specs.Written.{Written, job_of}
-use Rattle.xv_job.specs.Draft.{first_draft}
-use Rattle.xv_job.specs.Built.{reader_of}
-use Rattle.xv_job.specs.Built.{IsBuilt}
 use Rattle.xv_job.specs.Written.{IsGoodWritten}
 use Rattle.xv_job.specs.Texts.{text_fault as job_text_fault}
 use Rattle.xv_job.proofs.Texts.{job_read, job_is_said, lines_are, rest_is}
@@ -32,11 +29,11 @@ pub short-input : (bytes : List ℕ) → length bytes ≤ input_limit → input_
 short-input bytes within = rw (lt-is_not input_limit (length bytes) within) refl
 
 -- a fault of the job is the input's
-pub fault-of_job : (bytes : List ℕ) (fault : LineFault) → length bytes ≤ input_limit → job_text_fault true bytes ≡ Some fault → input_fault bytes ≡ Some fault
+pub fault-of_job : (bytes : List ℕ) (fault : LineFault) → length bytes ≤ input_limit → job_text_fault bytes ≡ Some fault → input_fault bytes ≡ Some fault
 fault-of_job bytes fault within is = short-input bytes within ∙ rw is refl
 
 -- where the job has none, the fault of what stands behind it is the input's
-pub fault-behind : (bytes behind : List ℕ) (w : Written) → length bytes ≤ input_limit → job_text_fault true bytes ≡ None → job_said (lines_of bytes) ≡ w → job_length (lines_of bytes) ≡ length (job_lines w) → lines_of bytes ≡ job_lines w ++ lines_of behind → has_rest bytes ≡ has_rest behind → input_fault bytes ≡ text_fault (counts_of (job_of w)) (length (job_lines w) + 1) behind
+pub fault-behind : (bytes behind : List ℕ) (w : Written) → length bytes ≤ input_limit → job_text_fault bytes ≡ None → job_said (lines_of bytes) ≡ w → job_length (lines_of bytes) ≡ length (job_lines w) → lines_of bytes ≡ job_lines w ++ lines_of behind → has_rest bytes ≡ has_rest behind → input_fault bytes ≡ text_fault (counts_of (job_of w)) (length (job_lines w) + 1) behind
 fault-behind bytes behind w within none said long parts rest =
     let cut : script_lines (lines_of bytes) ≡ lines_of behind =
     ap (λ n. drop n (lines_of bytes)) long ∙ (ap (λ (ls : List (List (List ℕ))). drop (length (job_lines w)) ls) parts ∙ drop-append_seam (job_lines w) (lines_of behind)) in
@@ -47,11 +44,11 @@ fault-behind bytes behind w within none said long parts rest =
     ∙ (ap (λ (ls : List (List (List ℕ))). first_fault (script_reader (job_of w)) true first_script (length (job_lines w) + 1) ls (has_rest bytes)) cut
     ∙ ap (λ (r : Bool). first_fault (script_reader (job_of w)) true first_script (length (job_lines w) + 1) (lines_of behind) r) rest))))
 
-pub fault-behind_job : (bytes behind : List ℕ) (w : Written) → length bytes ≤ input_limit → job_text_fault true bytes ≡ None → IsGoodWritten w → IsBuilt w → bytes ≡ job_text w ++ behind → input_fault bytes ≡ text_fault (counts_of (job_of w)) (length (job_lines w) + 1) behind
-fault-behind_job bytes behind w within none good built is =
+pub fault-behind_job : (bytes behind : List ℕ) (w : Written) → length bytes ≤ input_limit → job_text_fault bytes ≡ None → IsGoodWritten w → bytes ≡ job_text w ++ behind → input_fault bytes ≡ text_fault (counts_of (job_of w)) (length (job_lines w) + 1) behind
+fault-behind_job bytes behind w within none good is =
     let parts = lines_are w behind bytes good is in
-    let read = job_read true w behind bytes good (λ _. built) is in
-    fault-behind bytes behind w within none (job_is_said true w behind bytes good (λ _. built) is)
+    let read = job_read w behind bytes good is in
+    fault-behind bytes behind w within none (job_is_said w behind bytes good is)
     (ap (λ (ls : List (List (List ℕ))). job_length ls) parts ∙ read.count) parts (rest_is w behind bytes is)
 
 -- a text has no more lines than bytes

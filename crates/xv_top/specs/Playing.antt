@@ -1,20 +1,55 @@
--- A script that is being played: what has happened and been written, and what is still to come.
-use Rattle.std.specs.Prelude.{◌≡◌, ℕ, true, false, List, [], ◌++◌, length, Option}
+-- Lines of a script that were played on a migration: what each did, and what it wrote.
+use Rattle.std.specs.Prelude.{◌≡◌, ◌≤◌, ℕ, List, [], ◌∷◌, ◌++◌, length, take, drop, Option}
 use Rattle.xv_io.specs.Io.{TookMore, TookFront}
 use Rattle.xv_model.specs.Wait.{Event}
 use Rattle.xv_model.specs.Effect.{Turn}
-use Rattle.xv_model.specs.Step.{turn}
-use Rattle.xv_script.specs.Lines.{turn_line}
+use Rattle.xv_model.specs.Report.{probe}
+use Rattle.xv_script.specs.Lines.{turn_line, probe_line}
+use Rattle.xv_script.specs.declared.line.Line.{Line}
+use Rattle.xv_script.specs.declared.line.Line.TheVariants.{Step, Ask}
 use Rattle.xv_job.specs.Written.{job_of}
-use Rattle.xv_plain.specs.Seen.{Seen, view_of, bytes_read, IsStep, is_no_memory}
+use Rattle.xv_core.specs.Seen.{Seen, view_of}
+use Rattle.xv_core.specs.Stepped.{IsStep}
+use Rattle.xv_core.specs.Keeping.{IsKept}
 
--- the line of an event that is played
-abbrev pub line_played : Seen → Event → List ℕ
-line_played m event = turn_line event (turn (job_of m.job) (view_of m) event false) (bytes_read (job_of m.job) (view_of m) event)
-
--- an event was played: the migration made one step, and its line was taken
-pub record IsPlayed (old : Seen) (event : Event) (new : Seen) (before after : Option (List ℕ)) : Type 0 where
+-- an event was played: it was one step, after which all holds that every migration keeps, and its line says its answer and
+-- the bytes that it read
+pub record IsEventPlayed (old : Seen) (event : Event) (new : Seen) (text : List ℕ) : Type 0 where
   pub answer : Turn
-  pub there : is_no_memory answer ≡ false
   pub stepped : IsStep old event answer new
-  pub line : TookMore before after (line_played old event)
+  pub kept : IsKept new
+  pub line : text ≡ turn_line event answer (drop (length old.reads) new.reads)
+
+-- a line was played; a unit that is asked for changes nothing
+abbrev pub IsLinePlayed : Seen → Line → Seen → List ℕ → Type 0
+IsLinePlayed old (Step event) new text = IsEventPlayed old event new text
+IsLinePlayed old (Ask unit) new text = (new ≡ old) × (text ≡ probe_line (probe (job_of old.job) (view_of old) unit.0))
+
+-- a line was played and its text was taken, whole or a front of it
+abbrev pub IsLineWritten : Seen → Line → Seen → Option (List ℕ) → Option (List ℕ) → Type 0
+IsLineWritten old line new before after = (text : List ℕ) × IsLinePlayed old line new text × TookMore before after text
+
+abbrev pub IsLineCut : Seen → Line → Seen → Option (List ℕ) → Option (List ℕ) → Type 0
+IsLineCut old line new before after = (text : List ℕ) × IsLinePlayed old line new text × TookFront before after text
+
+-- lines were played one after another, each where the one before it left the migration
+abbrev pub ArePlayed : Seen → List Line → Seen → List ℕ → Type 0
+ArePlayed old [] new text = (new ≡ old) × (text ≡ [])
+ArePlayed old (l ∷ ls) new text =
+    (mid : Seen) × (first : List ℕ) × (rest : List ℕ) × IsLinePlayed old l mid first × ArePlayed mid ls new rest × (text ≡ first ++ rest)
+
+-- The output failed at a line: those before it were played and their text was taken whole, it was played too, and a front
+-- of its text was taken. None behind it was played.
+pub record IsCutShort (old : Seen) (lines : List Line) (new : Seen) (before after : Option (List ℕ)) : Type 0 where
+  pub done : List Line
+  pub last : Line
+  pub behind : List Line
+  pub parts : lines ≡ done ++ last ∷ behind
+  pub mid : Seen
+  pub text : List ℕ
+  pub text_of_last : List ℕ
+  pub played : ArePlayed old done mid text
+  pub last_played : IsLinePlayed mid last new text_of_last
+  pub front : ℕ
+  pub within : front ≤ length text_of_last
+  pub taken : TookMore before after (text ++ take front text_of_last)

@@ -1,13 +1,12 @@
 -- How an input is refused: by its length, or by its first faulty line, of the job or behind it of the script.
 use Rattle.std.specs.Prelude.{ℕ, ◌+◌, nat_lt, Bool, true, false, List, [], ◌∷◌, ◌++◌, length, drop, codes, decimal, Option, Some, None, if◌then◌else◌}
 use Rattle.xv_base.specs.declared.text.LineWhy.{LineWhy}
-use Rattle.xv_base.specs.declared.text.LineWhy.TheVariants.{Unended, BadWord, Order, BadNumber, BadHex, Limit, OutOfRange, CrossesPage, TooMany, Unbuilt}
+use Rattle.xv_base.specs.declared.text.LineWhy.TheVariants.{Unended, BadWord, Order, BadNumber, BadHex, Limit, OutOfRange, CrossesPage, TooMany}
 use Rattle.xv_base.specs.declared.text.LineFault.{LineFault}
 use Rattle.xv_text.specs.Lines.{lines_of, has_rest}
 use Rattle.xv_text.specs.Reading.{first_fault, last_state, line_count}
 use Rattle.xv_job.specs.Written.{Written, job_of}
-use Rattle.xv_job.specs.Draft.{first_draft}
-use Rattle.xv_job.specs.Built.{reader_of}
+use Rattle.xv_job.specs.Draft.{first_draft, job_reader}
 use Rattle.xv_script.specs.Script.{first_script, script_reader}
 
 -- how many bytes an input has at most
@@ -16,10 +15,10 @@ input_limit = 67108864
 
 -- the job that the lines say, and the lines behind it
 abbrev pub job_said : List (List (List ℕ)) → Written
-job_said lines = (last_state (reader_of true) first_draft lines).job
+job_said lines = (last_state job_reader first_draft lines).job
 
 abbrev pub job_length : List (List (List ℕ)) → ℕ
-job_length lines = line_count (reader_of true) first_draft lines
+job_length lines = line_count job_reader first_draft lines
 
 abbrev pub script_lines : List (List (List ℕ)) → List (List (List ℕ))
 script_lines lines = drop (job_length lines) lines
@@ -30,7 +29,7 @@ fault_or None later = later
 
 abbrev pub lines_fault : List (List (List ℕ)) → Bool → Option LineFault
 lines_fault lines rest =
-    fault_or (first_fault (reader_of true) false first_draft 1 lines rest)
+    fault_or (first_fault job_reader false first_draft 1 lines rest)
     (first_fault (script_reader (job_of (job_said lines))) true first_script (job_length lines + 1) (script_lines lines) rest)
 
 abbrev pub input_fault : List ℕ → Option LineFault
@@ -49,7 +48,6 @@ why_words (Limit n) = codes "limit " ++ decimal n
 why_words OutOfRange = codes "out-of-range"
 why_words CrossesPage = codes "crosses-page"
 why_words TooMany = codes "too-many"
-why_words Unbuilt = codes "unbuilt"
 
 abbrev pub refused_line : LineFault → List ℕ
 refused_line fault = codes "refused line " ++ decimal fault.line ++ 32 ∷ why_words fault.why ++ 10 ∷ []

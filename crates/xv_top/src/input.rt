@@ -3,7 +3,6 @@
 ghost use Rattle.std.specs.Prelude.{◌≡◌, ◌≤◌, ◌+◌, ◌⊎◌, Some, length, drop, take, IfSome, IfOk, IfErr, OnOk, IsErrOf};
 ghost use Rattle.xv_io.specs.Io.{CountRose, IsAtEnd, GaveAtLeast};
 ghost use Rattle.xv_job.specs.Written.{job_of};
-ghost use Rattle.xv_job.specs.Built.{IsBuilt};
 ghost use Rattle.xv_script.specs.Script.{IsScriptOf};
 ghost use Rattle.xv_top.specs.Refused.{input_limit, input_fault};
 ghost use Rattle.xv_top.specs.Top.{IsInput, IsRefused, IsTooLong, IsReadFault, RefusedSo};
@@ -30,7 +29,6 @@ pub enum InputError {
 /// Reads a job and its script, to the end of the input.
 pub fn read_input<I: Source>(alloc: Global, input: &mut I) -> Result<(Job, Vec<Line>), InputError>
     ensures text { IfOk result (λ found. IfSome (I.left input.old) (λ bytes. IsInput bytes found.0 found.1.items)) }
-    ensures built { IfOk result (λ found. IsBuilt found.0) }
     ensures script { IfOk result (λ found. IsScriptOf (job_of found.0) found.1.items) }
     ensures ended { OnOk result (IsAtEnd (I.left input.new)) }
     ensures refused { IfErr result (λ error. RefusedSo error (λ fault. IfSome (I.left input.old) (λ bytes. IsRefused bytes fault))) }
@@ -73,7 +71,6 @@ fn too_long() -> LineFault
 fn parse(alloc: Global, text: &[u8]) -> Result<(Job, Vec<Line>), InputError>
     requires { length text.now ≤ input_limit }
     ensures text { IfOk result (λ found. IsInput text.now found.0 found.1.items) }
-    ensures built { IfOk result (λ found. IsBuilt found.0) }
     ensures script { IfOk result (λ found. IsScriptOf (job_of found.0) found.1.items) }
     ensures refused { IfErr result (λ error. RefusedSo error (λ fault. IsRefused text.now fault)) }
     ensures no_fault { IfErr result (λ error. IsReadFault error → ⊥) }

@@ -1,9 +1,10 @@
 // The program as a function of its words, its input and its output.
 //
-// `top` does what the table of commands has for its words. `replay` reads all input, checks it whole, steps a migration
-// through the script, and writes the transcript, the report and the image; the migration that ran is handed out.
+// `top` does what the table of commands has for its words. `replay` reads all input, checks it whole, plays the script on a
+// migration in memory, and writes the transcript, the report and the image; the migration that ran is handed out.
 // `handover` reads and checks the same way, plays the script on two nodes, and writes the answers and the nodes. What is
-// written is a stated function of what was read, and a refusal names the first faulty line.
+// written is a stated function of what was read, and a refusal names the first faulty line. `replay_on` plays lines on a
+// migration over any devices and wires.
 #![tactic(auto)]
 
 mod command;
@@ -14,9 +15,12 @@ mod playing;
 mod program;
 mod refusal;
 
+pub use playing::replay_on;
 pub use program::{Left, top};
 
 #[cfg(test)]
 mod handover_tests;
+#[cfg(test)]
+mod replay_tests;
 #[cfg(test)]
 mod tests;

@@ -1,92 +1,94 @@
-//! A script that is played: each event is one step, and its line is written.
+//! A script that is played: each event is one step, and each line is answered.
 
-ghost use Rattle.std.specs.Prelude.{◌≡◌, ◌≤◌, true, false, [], OnOk, OnErr, IsErrOf};
-ghost use Rattle.xv_io.specs.Io.{CountRose, TookMore, TookFront};
-ghost use Rattle.xv_model.specs.Step.{play};
+ghost use Rattle.std.specs.Prelude.{◌≡◌, ◌≤◌, ℕ, true, List, OnOk, OnErr};
+ghost use Rattle.std.specs.List.{list_all};
+ghost use Rattle.xv_io.specs.Io.{CountRose, TookMore};
 ghost use Rattle.xv_model.specs.Wait.{fits};
 ghost use Rattle.xv_job.specs.Written.{job_of};
-ghost use Rattle.xv_job.specs.Built.{IsBuilt};
-ghost use Rattle.xv_job.specs.BuiltEvents.{is_built_event, is_guest, has_begin};
-ghost use Rattle.xv_script.specs.Lines.{events_of};
-ghost use Rattle.xv_script.specs.Script.{IsScriptOf};
-ghost use Rattle.xv_plain.specs.Seen.{is_no_memory};
-ghost use Rattle.xv_top.specs.Replay.{transcript};
-ghost use Rattle.xv_top.specs.Playing.{IsPlayed, line_played};
+ghost use Rattle.xv_script.specs.Script.{is_in};
+ghost use Rattle.xv_script.specs.declared.line.Line.TheVariants.{Step};
+ghost use Rattle.xv_core.specs.Rising.{Rises, TakesRise};
+ghost use Rattle.xv_core.specs.Stepped.{KeepsUnwritten, TellsOn};
+ghost use Rattle.xv_core.specs.Keeping.{IsKept};
+ghost use Rattle.xv_top.specs.Playing.{ArePlayed, IsCutShort, IsLineWritten, IsLineCut};
 
 use crate::input::behind;
-use std::alloc::Global;
-use xv_base::{Event, Turn};
-use xv_io::{Sink, write_text};
-use xv_plain::Migration;
-use xv_script::{Line, print_turn};
+use xv_base::Event;
+use xv_core::Migration;
+use xv_device::UnitDevice;
+use xv_io::{Sink, WriteFault, write_text};
+use xv_script::{Line, print_probe, print_turn};
+use xv_wire::Wire;
 
-/// Why a script was not played to its end.
+/// Why a command did not write all that it writes.
 #[derive(Clone, Copy)]
 pub enum PlayError {
     WriteFault,
     NoMemory,
 }
 
-/// Steps a migration that has just begun through a script, and writes what each event answers.
-pub fn play<O: Sink>(
-    alloc: Global,
-    migration: &mut Migration,
+/// Plays lines on a migration, one after another, and writes a line for each: an event makes one step, and is answered with
+/// the bytes that it read for its guest; a unit that is asked for is answered with its numbers. It takes no memory.
+///
+/// Errors: `WriteFault` where a write failed. The lines up to that one were played; the texts of those before it were taken
+/// whole, and of its own a front.
+pub fn replay_on<S: UnitDevice, T: UnitDevice, W: Wire, O: Sink>(
+    migration: &mut Migration<S, T, W>,
     lines: &[Line],
-    output: &mut O,
-) -> Result<(), PlayError>
-    requires begins { migration.old.journal ≡ [] }
-    requires job_built { IsBuilt migration.old.job }
-    requires script { IsScriptOf (job_of migration.old.job) lines.now }
+    sink: &mut O,
+) -> Result<(), WriteFault>
+    requires in_job { list_all (is_in (job_of migration.old.job)) lines.now ≡ true }
+    ensures played { OnOk result ((text : List ℕ) × ArePlayed migration.old lines.now migration.new text × TookMore (O.taken sink.old) (O.taken sink.new) text) }
+    ensures cut { OnErr result (IsCutShort migration.old lines.now migration.new (O.taken sink.old) (O.taken sink.new)) }
     ensures job { migration.new.job ≡ migration.old.job }
-    ensures journal { OnOk result (migration.new.journal ≡ play (job_of migration.old.job) (events_of lines.now)) }
-    ensures written { OnOk result (TookMore (O.taken output.old) (O.taken output.new) (transcript (job_of migration.old.job) (events_of lines.now))) }
-    ensures front { OnErr result (TookFront (O.taken output.old) (O.taken output.new) (transcript (job_of migration.old.job) (events_of lines.now))) }
-    ensures fault { IsErrOf result PlayError.WriteFault → CountRose (O.faults output.old) (O.faults output.new) }
-    ensures counts { O.faults output.old ≤ O.faults output.new }
+    ensures rises { Rises migration.old migration.new }
+    ensures takes_rise { TakesRise migration.old migration.new }
+    ensures unwritten { KeepsUnwritten migration.old migration.new }
+    ensures tells { TellsOn migration.old migration.new }
+    ensures kept { IsKept migration.new }
+    ensures fault { OnErr result (CountRose (O.faults sink.old) (O.faults sink.new)) }
+    ensures counts { O.faults sink.old ≤ O.faults sink.new }
 {
+    // That a migration keeps what it keeps is told with its journal.
+    let _ = migration.journal();
     for line in lines {
-        match *line {
-            Line::Step(event) => play_event(alloc, migration, event, output)?,
-            Line::Ask(_) => unreachable!(),
-        }
+        play_line(migration, *line, sink)?;
     }
     Ok(())
 }
 
-/// Steps a migration by one event, and writes what it answers, with what it read for its guest.
-fn play_event<O: Sink>(
-    alloc: Global,
-    migration: &mut Migration,
-    event: Event,
-    output: &mut O,
-) -> Result<(), PlayError>
-    requires fit { fits (job_of migration.old.job) event ≡ true }
-    requires built { is_built_event event ≡ true }
-    requires early { is_guest event ≡ true → has_begin migration.old.journal ≡ false }
-    ensures played { OnOk result (IsPlayed migration.old event migration.new (O.taken output.old) (O.taken output.new)) }
-    ensures job { migration.new.job ≡ migration.old.job }
-    ensures front { OnErr result (TookFront (O.taken output.old) (O.taken output.new) (line_played migration.old event)) }
-    ensures fault { IsErrOf result PlayError.WriteFault → CountRose (O.faults output.old) (O.faults output.new) }
-    ensures counts { O.faults output.old ≤ O.faults output.new }
+/// Plays a line, and writes its answer.
+fn play_line<S: UnitDevice, T: UnitDevice, W: Wire, O: Sink>(
+    migration: &mut Migration<S, T, W>,
+    line: Line,
+    sink: &mut O,
+) -> Result<(), WriteFault>
+    requires in_job { is_in (job_of migration.old.job) line ≡ true }
+    ensures whole { OnOk result (IsLineWritten migration.old line migration.new (O.taken sink.old) (O.taken sink.new)) }
+    ensures front { OnErr result (IsLineCut migration.old line migration.new (O.taken sink.old) (O.taken sink.new)) }
+    ensures fault { OnErr result (CountRose (O.faults sink.old) (O.faults sink.new)) }
+    ensures counts { O.faults sink.old ≤ O.faults sink.new }
 {
-    let before = migration.reads().len();
-    let turn = migration.step(alloc, event);
-    if is_no_memory(turn) {
-        return Err(PlayError::NoMemory);
-    }
-    let line = print_turn(event, turn, behind(migration.reads(), before));
-    match write_text(output, line.bytes()) {
-        Ok(()) => Ok(()),
-        Err(_) => Err(PlayError::WriteFault),
+    match line {
+        Line::Step(event) => play_event(migration, event, sink),
+        Line::Ask(unit) => write_text(sink, print_probe(migration.probe(unit)).bytes()),
     }
 }
 
-/// Whether an answer is want of memory.
-fn is_no_memory(turn: Turn) -> bool
-    ensures { result ≡ is_no_memory turn }
+/// Steps a migration by one event, and writes what it answers, with what it read for its guest.
+fn play_event<S: UnitDevice, T: UnitDevice, W: Wire, O: Sink>(
+    migration: &mut Migration<S, T, W>,
+    event: Event,
+    sink: &mut O,
+) -> Result<(), WriteFault>
+    requires fit { fits (job_of migration.old.job) event ≡ true }
+    ensures whole { OnOk result (IsLineWritten migration.old (Step event) migration.new (O.taken sink.old) (O.taken sink.new)) }
+    ensures front { OnErr result (IsLineCut migration.old (Step event) migration.new (O.taken sink.old) (O.taken sink.new)) }
+    ensures fault { OnErr result (CountRose (O.faults sink.old) (O.faults sink.new)) }
+    ensures counts { O.faults sink.old ≤ O.faults sink.new }
 {
-    match turn {
-        Turn::NoMemory => true,
-        Turn::Done(_) | Turn::Queued | Turn::Faulted | Turn::Wait(_) | Turn::Failed(_) => false,
-    }
+    let before = migration.reads().len();
+    let turn = migration.step(event);
+    let line = print_turn(event, turn, behind(migration.reads(), before));
+    write_text(sink, line.bytes())
 }

@@ -3,7 +3,6 @@
 ghost use Rattle.std.specs.Prelude.{◌≡◌, ◌≢◌, ◌≤◌, ◌+◌, ◌⊎◌, map, IfOk, OnOk, IsErrOf, OnErr, string_bytes};
 ghost use Rattle.xv_io.specs.Io.{CountRose, IsAtEnd, GaveAtLeast, TookMore, TookFront};
 ghost use Rattle.xv_job.specs.Written.{job_of};
-ghost use Rattle.xv_job.specs.Built.{IsBuilt};
 ghost use Rattle.xv_script.specs.Script.{IsScriptOf};
 ghost use Rattle.xv_top.specs.Replay.{output_text};
 ghost use Rattle.xv_top.specs.Refused.{input_limit, refused_words};
@@ -17,20 +16,20 @@ use crate::command::{Command, command_of};
 use crate::handover::run_handover;
 use crate::input::{InputError, read_input};
 use crate::output::write_result;
-use crate::playing::{PlayError, play};
+use crate::playing::{PlayError, replay_on};
 use crate::refusal::{refuse_input, refuse_words};
 use std::alloc::Global;
 use xv_base::Status;
 use xv_io::{Sink, Source};
 use xv_job::Job;
-use xv_plain::Migration;
+use xv_parts::{Machine, begin};
 use xv_script::Line;
 
 /// What a call leaves behind: the migration that ran, or nothing.
 #[derive(Drop)]
 pub enum Left {
     Nothing,
-    First(Migration),
+    First(Machine),
 }
 
 /// Runs the program: the command that the words call. `replay` reads a job and a script, plays the script, and writes
@@ -102,8 +101,8 @@ fn run_replay<I: Source, O: Sink>(
         Err(InputError::Refused(fault)) => return refuse_input(fault, output),
     };
     match replay(alloc, job, &lines, output) {
-        Ok(migration) => {
-            *left = Left::First(migration);
+        Ok(machine) => {
+            *left = Left::First(machine);
             Status::Fine
         }
         Err(PlayError::WriteFault) => Status::WriteFault,
@@ -111,29 +110,31 @@ fn run_replay<I: Source, O: Sink>(
     }
 }
 
-/// Plays a script on a migration of a job from its start, and writes all that `replay` writes.
+/// Plays a script on a migration of a job from its start, over devices and wires in memory, and writes all that `replay`
+/// writes.
 fn replay<O: Sink>(
     alloc: Global,
     job: Job,
     lines: &[Line],
     output: &mut O,
-) -> Result<Migration, PlayError>
-    requires job_built { IsBuilt job }
+) -> Result<Machine, PlayError>
     requires script { IsScriptOf (job_of job) lines.now }
     ensures ran { IfOk result (λ m. HasRun job lines.now m) }
     ensures written { OnOk result (TookMore (O.taken output.old) (O.taken output.new) (output_text (job_of job) lines.now)) }
     ensures front { OnErr result (TookFront (O.taken output.old) (O.taken output.new) (output_text (job_of job) lines.now)) }
     ensures fault { IsErrOf result PlayError.WriteFault → CountRose (O.faults output.old) (O.faults output.new) }
 {
-    let mut migration = match Migration::start(alloc, job) {
-        Ok(migration) => migration,
+    let mut machine = match begin(alloc, job) {
+        Ok(machine) => machine,
         Err(_) => return Err(PlayError::NoMemory),
     };
-    match play(alloc, &mut migration, lines, output) {
-        Ok(()) => match write_result(&migration, output) {
-            Ok(()) => Ok(migration),
+    // That it keeps what every migration keeps is told with its journal.
+    let _ = machine.journal();
+    match replay_on(&mut machine, lines, output) {
+        Ok(()) => match write_result(&machine, output) {
+            Ok(()) => Ok(machine),
             Err(_) => Err(PlayError::WriteFault),
         },
-        Err(error) => Err(error),
+        Err(_) => Err(PlayError::WriteFault),
     }
 }

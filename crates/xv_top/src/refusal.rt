@@ -62,7 +62,6 @@ fn push_why(line: &mut LineBuf, why: LineWhy)
         LineWhy::OutOfRange => line.push_all(b"out-of-range"),
         LineWhy::CrossesPage => line.push_all(b"crosses-page"),
         LineWhy::TooMany => line.push_all(b"too-many"),
-        LineWhy::Unbuilt => line.push_all(b"unbuilt"),
     }
 }
 

@@ -16,8 +16,19 @@ const EMPTY: &[u8] =
 const BEGUN: &[u8] =
     b"job 1\npages 1 16\ndisk 2 16\nstreams 1\ncredit 4\noutbox 4\nregion 1\nrounds 1\ndirty 0\nguest\nend\nbegin 0\nstop\n";
 
-const LATE: &[u8] =
-    b"job 1\npages 1 16\ndisk 2 16\nstreams 1\ncredit 4\noutbox 4\nregion 1\nrounds 1\ndirty 0\nguest\nwr 0 1 1 aa\nend\nbegin 0\nguest 0\nstop\n";
+/// A write to a block behind the copy, which fails, and a read of it.
+const FAULTED: &[u8] =
+    b"job 1\npages 1 16\ndisk 4 16\nstreams 3\ncredit 8\noutbox 8\nregion 1\nrounds 2\ndirty 0\nfault swrite 1\nguest\nwr 0 0 1 bb\nrd 0 0 0 4\nend\nbegin 0\nread 0\nadvance 0\nguest 0\nprobe 1\nguest 0\nstop\n";
+
+const FAULTED_OUT: &[u8] =
+    b"begin 0 done 1\nread 0 done 1\nadvance 0 done 1\nguest 0 faulted\nprobe 1 behind 1 0 1 0 0\nguest 0 read 00000000\nphase running\nowner source\nhistory 2\nfaulted 1\njournal 5\nstun none\ncopied 1\nrounds 0\nmessages 1\nmirrors 0\napplied 0\ncredit 8\n";
+
+/// A guest's write and read, and a cancel that is due in between.
+const CANCELLED: &[u8] =
+    b"job 1\npages 1 16\nstreams 1\ncredit 2\noutbox 2\nregion 1\nrounds 1\ndirty 0\ncancel 1\nguest\nst 0 1 aa\nld 0 2\nend\nstun\ncancel\nguest 0\nguest 0\nround\npage\nstun\nguest 0\nswitch\ncancel\nguest 0\nsend 0\nstop\n";
+
+const CANCELLED_OUT: &[u8] =
+    b"stun wait cancel-due\ncancel wait not-now\nguest 0 done\nguest 0 wait cancel-due\nround done 1\npage done 0 1\nstun done 0\nguest 0 wait cancel-due\nswitch wait cancel-due\ncancel done\nguest 0 read aa00\nsend 0 wait not-now\nphase cancelled\nowner source\nhistory 2\nfaulted 0\njournal 6\nstun 1\ncopied 0\nrounds 1\nmessages 1\nmirrors 0\napplied 0\ncredit 2\nsrc 0 aa000000000000000000000000000000\n";
 
 const READ: &[u8] =
     b"job 1\npages 1 16\ndisk 2 16\ndisk 1 32\nstreams 1\ncredit 4\noutbox 4\nregion 1\nrounds 1\ndirty 0\ninit 1 5a\nguest\nrd 0 0 2 3\nwr 1 0 1 0102\nend\nguest 0\nguest 0\nguest 0\nstop\n";
@@ -77,13 +88,22 @@ const CASES: &[Case] = &[
         output: b"refused line 12 unended\n",
     },
     Case {
-        name: "a guest after the copy began",
+        name: "a write that fails as planned, and a unit that is asked for",
         words: &["replay"],
-        input: LATE,
+        input: FAULTED,
         fails: &[],
         room: 500,
-        status: 2,
-        output: b"refused line 14 unbuilt\n",
+        status: 0,
+        output: FAULTED_OUT,
+    },
+    Case {
+        name: "a cancel while stunned",
+        words: &["replay"],
+        input: CANCELLED,
+        fails: &[],
+        room: 500,
+        status: 0,
+        output: CANCELLED_OUT,
     },
     Case {
         name: "a number with a leading zero",

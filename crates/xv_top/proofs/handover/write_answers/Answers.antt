@@ -3,7 +3,7 @@ use Rattle.std.proofs.lemmas.List.{length_push}
 use Rattle.std.proofs.lemmas.Slice.Zip.{zip_turn}
 use Rattle.xv_io.specs.Io.{TookMore, TookFront}
 use Rattle.xv_top.proofs.Handovers.{IsTold, told_more, told_front}
-use Rattle.xv_top.proofs.Played.{on-err}
+use Rattle.xv_top.proofs.Played.{err-with}
 use Rattle.xv_top.proofs.handover.write_answers.Goals as goal
 
 pub loop-event-preserved : goal.loop-event-preserved
@@ -22,4 +22,4 @@ returns-in_err-write_text-clause-front g c =
     let turn = zip_turn c.args.events.now c.args.replies.now c.loop-event.yielded c.into_iter-event-iterator.result c.loop-event.event-iterator c.next.new.self c.next.result (cc) (cc) c.loop-event.yielded_by (c.in-Some.event, c.in-Some.reply) c.in-Some.is c.next.ensures.steps in
     let taken = g.O.Sink.taken in
     let line = subst (λ (bytes : List ℕ). TookFront (taken c.loop-event.output) (taken c.write_text.new.sink) bytes) (c.bytes.ensures.exactly ∙ c.print_reply.ensures) c.write_text.ensures.front in
-    on-err c.from_residual.result _ (told_front c.args.events.now c.args.replies.now (length c.loop-event.yielded) _ _ _ c.in-Some.event.now c.in-Some.reply.now turn.0 turn.1 (turn.2 c.in-Some.event.now) (turn.3 c.in-Some.reply.now) c.loop-event.invariant.told line)
+    err-with c.from_residual.result _ (told_front c.args.events.now c.args.replies.now (length c.loop-event.yielded) _ _ _ c.in-Some.event.now c.in-Some.reply.now turn.0 turn.1 (turn.2 c.in-Some.event.now) (turn.3 c.in-Some.reply.now) c.loop-event.invariant.told line)

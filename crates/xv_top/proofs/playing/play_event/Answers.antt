@@ -1,21 +1,29 @@
-use Rattle.std.proofs.Common.{◌≡◌, List, ℕ, sym, ◌∙◌, subst}
-use Rattle.xv_io.specs.Io.{TookMore, TookFront}
-use Rattle.xv_top.proofs.Played.{line-is}
+use Rattle.std.proofs.Common.{◌∙◌}
+use Rattle.xv_io.specs.Io.{TookMore}
+use Rattle.xv_script.specs.declared.line.Line.TheVariants.{Step}
+use Rattle.xv_top.specs.Playing.{IsLineWritten, IsLineCut}
+use Rattle.xv_top.proofs.Played.{reads-grow, reads-few, event-played, ok-with, err-with}
 use Rattle.xv_top.proofs.playing.play_event.Goals as goal
 
-pub returns-in-Ok-clause-played : goal.returns-in-Ok-clause-played
-returns-in-Ok-clause-played g c =
-    let there = sym c.is_no_memory.ensures ∙ c.if-is_no_memory.false in
-    let said = line-is c.args.migration.now c.step-turn.new.self c.args.event c.step-turn.result c.reads-before.result.now c.reads.result.now c.behind.result.now there c.step-turn.ensures c.reads-before.ensures.exactly c.reads.ensures.exactly c.behind.ensures in
-    record {
-      answer = c.step-turn.result;
-      there = there;
-      stepped = c.step-turn.ensures;
-      line = subst (λ (line : List ℕ). TookMore (g.O.Sink.taken c.args.output.now) (g.O.Sink.taken c.write_text.new.sink) line) (c.bytes.ensures.exactly ∙ (c.print_turn-line.ensures ∙ said)) c.in-Ok.ensures.whole;
-    }
+pub behind-requires : goal.behind-requires
+behind-requires g c =
+    reads-grow c.args.migration.now c.step-turn.new.self c.args.event c.step-turn.result c.reads-before.result.now c.reads.result.now c.step-turn.ensures c.reads-before.ensures.exactly c.reads.ensures.exactly
 
-pub returns-in-Err-clause-front : goal.returns-in-Err-clause-front
-returns-in-Err-clause-front g c =
-    let there = sym c.is_no_memory.ensures ∙ c.if-is_no_memory.false in
-    let said = line-is c.args.migration.now c.step-turn.new.self c.args.event c.step-turn.result c.reads-before.result.now c.reads.result.now c.behind.result.now there c.step-turn.ensures c.reads-before.ensures.exactly c.reads.ensures.exactly c.behind.ensures in
-    subst (λ (line : List ℕ). TookFront (g.O.Sink.taken c.args.output.now) (g.O.Sink.taken c.write_text.new.sink) line) (c.bytes.ensures.exactly ∙ (c.print_turn-line.ensures ∙ said)) c.in-Err.ensures.front
+pub print_turn-line-requires : goal.print_turn-line-requires
+print_turn-line-requires g c =
+    reads-few c.args.migration.now c.step-turn.new.self c.args.event c.step-turn.result c.reads-before.result.now c.reads.result.now c.behind.result.now c.step-turn.ensures c.reads-before.ensures.exactly c.reads.ensures.exactly c.behind.ensures
+
+pub returns-clause-whole : goal.returns-clause-whole
+returns-clause-whole g c =
+    let played = event-played c.args.migration.now c.step-turn.new.self c.args.event c.step-turn.result c.reads-before.result.now c.reads.result.now c.behind.result.now c.bytes.result.now c.step-turn.ensures c.reads.ensures.kept c.reads-before.ensures.exactly c.reads.ensures.exactly c.behind.ensures (c.bytes.ensures.exactly ∙ c.print_turn-line.ensures) in
+    ok-with c.write_text.result
+    (TookMore (g.O.Sink.taken c.args.sink.now) (g.O.Sink.taken c.write_text.new.sink) c.bytes.result.now)
+    (IsLineWritten c.args.migration.now (Step c.args.event) c.step-turn.new.self (g.O.Sink.taken c.args.sink.now) (g.O.Sink.taken c.write_text.new.sink))
+    (λ took. (c.bytes.result.now, played, took)) c.write_text.ensures.whole
+
+pub returns-clause-front : goal.returns-clause-front
+returns-clause-front g c =
+    let played = event-played c.args.migration.now c.step-turn.new.self c.args.event c.step-turn.result c.reads-before.result.now c.reads.result.now c.behind.result.now c.bytes.result.now c.step-turn.ensures c.reads.ensures.kept c.reads-before.ensures.exactly c.reads.ensures.exactly c.behind.ensures (c.bytes.ensures.exactly ∙ c.print_turn-line.ensures) in
+    err-with c.write_text.result
+    (IsLineCut c.args.migration.now (Step c.args.event) c.step-turn.new.self (g.O.Sink.taken c.args.sink.now) (g.O.Sink.taken c.write_text.new.sink))
+    (c.bytes.result.now, played, c.write_text.ensures.front)

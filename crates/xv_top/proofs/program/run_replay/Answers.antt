@@ -6,10 +6,12 @@ use Rattle.xv_script.specs.declared.line.Line.{Line}
 use Rattle.xv_top.specs.Top.{IsInput}
 use Rattle.xv_top.proofs.program.run_replay.Goals as goal
 
-pub replay-requires-clause-script : goal.replay-requires-clause-script
-replay-requires-clause-script g c = subst (λ (lines : List Line). IsScriptOf (job_of c.in-Ok.found.0) lines) (sym c.deref.ensures.value) c.in-Ok.ensures.script
+pub replay-requires : goal.replay-requires
+replay-requires g c = record {
+  script = subst (λ (lines : List Line). IsScriptOf (job_of c.in-Ok.found.0) lines) (sym c.deref.ensures.value) c.in-Ok.ensures.script;
+}
 
 pub returns-in-Ok-replay-clause-fine : goal.returns-in-Ok-replay-clause-fine
 returns-in-Ok-replay-clause-fine g c = λ _.
     let text = subst (λ (lines : List Line). IfSome (g.I.Source.left c.args.input.now) (λ bytes. IsInput bytes c.in-Ok.found.0 lines)) (sym c.deref.ensures.value) c.in-Ok.ensures.text in
-    record { written = c.in-Ok.found.0; lines = c.deref.result.now; migration = c.in-Ok-replay.migration; input = text; output = c.in-Ok-replay.ensures.written; has_run = c.in-Ok-replay.ensures.ran; is_left = refl }
+    record { written = c.in-Ok.found.0; lines = c.deref.result.now; migration = c.in-Ok-replay.machine; input = text; output = c.in-Ok-replay.ensures.written; has_run = c.in-Ok-replay.ensures.ran; is_left = refl }

@@ -1,0 +1,73 @@
+use Rattle.std.proofs.Common.{arith}
+use Rattle.xv_base.specs.declared.event.Event.TheVariants.{Guest}
+use Rattle.xv_script.specs.declared.line.Line.{Line}
+use Rattle.xv_script.specs.declared.line.Line.TheVariants.{Step}
+use Rattle.xv_top.proofs.Later.{later_none, later_line}
+use Rattle.xv_top.proofs.Played.{playing-begins, playing-more, playing-cut, playing-all, line-in_job, err-with}
+use Rattle.xv_top.proofs.playing.replay_on.Goals as goal
+
+-- what stands for a line that is not there
+abbrev no_line : Line
+no_line = Step (Guest (record { 0 = 0 }))
+
+pub loop-line-init : goal.loop-line-init
+loop-line-init g c = record {
+  later = later_none c.args.migration.now c.journal.ensures.kept;
+  playing = playing-begins c.args.migration.now c.args.lines.now (g.O.Sink.taken c.args.sink.now);
+  in_job = c.requires.in_job;
+  counts = omega arith;
+}
+
+pub play_line-requires : goal.play_line-requires
+play_line-requires g c = record {
+  in_job = (line-in_job c.args.migration.now.job c.loop-line.migration.job c.args.lines.now c.loop-line.line-index no_line c.loop-line.invariant.later.job c.loop-line-test.true c.loop-line.invariant.in_job).0;
+}
+
+pub loop-line-preserved : goal.loop-line-preserved
+loop-line-preserved g c =
+    let written = c.in_ok-play_line.ensures.whole in
+    record {
+      later = later_line c.args.migration.now c.loop-line.migration c.play_line.new.migration _ written.0 c.loop-line.invariant.later written.1;
+      playing = playing-more c.args.migration.now c.loop-line.migration c.play_line.new.migration c.args.lines.now c.loop-line.line-index no_line (g.O.Sink.taken c.args.sink.now) (g.O.Sink.taken c.loop-line.sink) (g.O.Sink.taken c.play_line.new.sink) c.loop-line-test.true c.loop-line.invariant.playing written;
+      in_job = (line-in_job c.args.migration.now.job c.loop-line.migration.job c.args.lines.now c.loop-line.line-index no_line c.loop-line.invariant.later.job c.loop-line-test.true c.loop-line.invariant.in_job).1;
+      counts = omega (arith, c.loop-line.invariant.counts, c.play_line.ensures.counts);
+    }
+
+pub returns-in_err-play_line-clause-cut : goal.returns-in_err-play_line-clause-cut
+returns-in_err-play_line-clause-cut g c =
+    err-with c.from_residual.result _
+    (playing-cut c.args.migration.now c.loop-line.migration c.play_line.new.migration c.args.lines.now c.loop-line.line-index no_line (g.O.Sink.taken c.args.sink.now) (g.O.Sink.taken c.loop-line.sink) (g.O.Sink.taken c.play_line.new.sink) c.loop-line-test.true c.loop-line.invariant.playing c.in_err-play_line.ensures.front)
+
+pub returns-in_err-play_line-clause-rises : goal.returns-in_err-play_line-clause-rises
+returns-in_err-play_line-clause-rises g c =
+    let cut = c.in_err-play_line.ensures.front in
+    (later_line c.args.migration.now c.loop-line.migration c.play_line.new.migration _ cut.0 c.loop-line.invariant.later cut.1).rises
+
+pub returns-in_err-play_line-clause-takes_rise : goal.returns-in_err-play_line-clause-takes_rise
+returns-in_err-play_line-clause-takes_rise g c =
+    let cut = c.in_err-play_line.ensures.front in
+    (later_line c.args.migration.now c.loop-line.migration c.play_line.new.migration _ cut.0 c.loop-line.invariant.later cut.1).takes_rise
+
+pub returns-in_err-play_line-clause-unwritten : goal.returns-in_err-play_line-clause-unwritten
+returns-in_err-play_line-clause-unwritten g c =
+    let cut = c.in_err-play_line.ensures.front in
+    (later_line c.args.migration.now c.loop-line.migration c.play_line.new.migration _ cut.0 c.loop-line.invariant.later cut.1).unwritten
+
+pub returns-in_err-play_line-clause-tells : goal.returns-in_err-play_line-clause-tells
+returns-in_err-play_line-clause-tells g c =
+    let cut = c.in_err-play_line.ensures.front in
+    (later_line c.args.migration.now c.loop-line.migration c.play_line.new.migration _ cut.0 c.loop-line.invariant.later cut.1).tells
+
+pub returns-in_err-play_line-clause-job : goal.returns-in_err-play_line-clause-job
+returns-in_err-play_line-clause-job g c =
+    let cut = c.in_err-play_line.ensures.front in
+    (later_line c.args.migration.now c.loop-line.migration c.play_line.new.migration _ cut.0 c.loop-line.invariant.later cut.1).job
+
+pub returns-in_err-play_line-clause-kept : goal.returns-in_err-play_line-clause-kept
+returns-in_err-play_line-clause-kept g c =
+    let cut = c.in_err-play_line.ensures.front in
+    (later_line c.args.migration.now c.loop-line.migration c.play_line.new.migration _ cut.0 c.loop-line.invariant.later cut.1).kept
+
+pub returns-clause-played : goal.returns-clause-played
+returns-clause-played g c =
+    playing-all c.args.migration.now c.loop-line.migration c.args.lines.now c.loop-line.line-index (g.O.Sink.taken c.args.sink.now) (g.O.Sink.taken c.loop-line.sink) c.loop-line-test.false c.loop-line.invariant.playing
