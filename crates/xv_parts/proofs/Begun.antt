@@ -1,15 +1,24 @@
 -- The wires of a job are fit for it, and the migration that begins over its devices and wires is the one in memory.
-use Rattle.std.specs.Prelude.{◌≡◌, ◌<◌, ℕ, List, [], ◌∷◌, length, map, get_or}
+use Rattle.std.specs.Prelude.{◌≡◌, ◌<◌, ℕ, ◌+◌, List, [], ◌∷◌, ◌++◌, length, map, get_or}
 use Rattle.std.specs.List.{range_with_len}
 use Rattle.std.proofs.Common.{refl, sym, ap, subst, ◌∙◌, arith}
-use Rattle.std.proofs.lemmas.List.FromFn.{get_or-map-range_with_len, length-map-range_with_len}
+use Rattle.std.proofs.lemmas.List.FromFn.{get_or-map-range_with_len, length-map-range_with_len, map-range_with_len_more}
 use Rattle.xv_device.specs.Memory.{Device, fresh as fresh_device, told as told_device}
 use Rattle.xv_wire.specs.Memory.{Pipe, told as told_pipe}
 use Rattle.xv_job.specs.Written.{Written, job_of}
-use Rattle.xv_core.specs.Seen.{Seen, OnDevice, OnWire}
+use Rattle.xv_core.specs.Seen.{OnDevice, OnWire}
 use Rattle.xv_core.specs.Beginning.{IsWireFor, stream_room, back_room, fresh_wire, begun}
 use Rattle.xv_parts.specs.Plans.{source_plan, dest_plan, back_plan}
-use Rattle.xv_parts.specs.Memory.{pipe_begun, stream_pipe, stream_begun, wire_begun, device_begun, begun_in_memory}
+use Rattle.xv_parts.specs.Memory.{pipe_begun, stream_pipe, stream_begun, device_begun, begun_in_memory}
+
+-- a wire more
+pub wire-more : (w : Written) (before later : List Pipe) (n : ℕ) (wire : Pipe) →
+    later ≡ before ++ wire ∷ [] → before ≡ map (stream_pipe w) (range_with_len 0 n) → wire ≡ stream_pipe w n → later ≡ map (stream_pipe w) (range_with_len 0 (n + 1))
+wire-more w before later n wire pushed are is =
+    pushed
+    ∙ ap (λ (ws : List Pipe). ws ++ wire ∷ []) are
+    ∙ ap (λ (p : Pipe). map (stream_pipe w) (range_with_len 0 n) ++ p ∷ []) is
+    ∙ sym (map-range_with_len_more (stream_pipe w) 0 n n (omega arith))
 
 -- the wires of the streams
 module _ (w : Written) (wires : List Pipe) (are : wires ≡ map (stream_pipe w) (range_with_len 0 w.config.streams)) where

@@ -1,17 +1,17 @@
 -- Where a journal's entries of each kind follow the numbers that the faults name, it is faithful to the faults.
 use Rattle.std.specs.Prelude.{◌≡◌, ℕ, ◌+◌, ◌==◌, ◌&&◌, ◌||◌, nat_lt, Bool, true, false, List, [], ◌∷◌, ◌++◌, map, filter, Option, Some, None, is_some, count_by, if◌then◌else◌}
 use Rattle.std.specs.List.{list_all, list_any}
-use Rattle.std.proofs.Common.{refl, sym, ap, subst, ◌∙◌, arith}
+use Rattle.std.proofs.Common.{refl, sym, ap, ◌∙◌, arith}
 use Rattle.std.proofs.lemmas.Bool.{and_parts, eq-eqb}
 use Rattle.std.proofs.lemmas.List.Sums.{sum_by_push}
 use Rattle.xv_base.specs.declared.event.Event.TheVariants.{Guest, Begin, Read, Advance, Release, Round, Page, Send, Deliver, Apply, Ack, Credit, Stun, Switch, Cancel}
-use Rattle.xv_base.specs.declared.answer.Turn.TheVariants.{Done, Queued, Faulted, Wait as Waits, Failed}
+use Rattle.xv_base.specs.declared.answer.Turn.TheVariants.{Done, Queued, Faulted, Failed}
 use Rattle.xv_device.specs.Device.{is_listed}
 use Rattle.xv_model.specs.Job.{Job, Fault}
 use Rattle.xv_model.specs.View.{View, is_switched}
 use Rattle.xv_model.specs.Wait.{Event, Why, wait, fits, next_operation, next_aim, is_join}
-use Rattle.xv_model.specs.Effect.{Turn, answer}
-use Rattle.xv_model.specs.Step.{Entry, Call, NoCall, SourceRead, SourceWrite, DestRead, DestWrite, DestFlush, Put, Take, AckPut, AckTake, guest_call, call, same_call, is_call, step, turn, turn_by, breaks, is_flagged, same_turn, same_truth, is_run_from, fault_call, fault_number, is_planned, is_faithful_from}
+use Rattle.xv_model.specs.Effect.{Turn}
+use Rattle.xv_model.specs.Step.{Entry, Call, NoCall, SourceRead, SourceWrite, DestRead, DestWrite, DestFlush, Put, Take, AckPut, AckTake, guest_call, call, same_call, is_call, step, turn, turn_by, is_flagged, same_turn, same_truth, is_run_from, fault_call, fault_number, is_planned, is_faithful_from}
 use Rattle.xv_core.specs.Plans.{follows_from}
 use Rattle.xv_parts.specs.Plans.{is_of_kind, numbers_of}
 use Rattle.xv_parts.proofs.Stepping.{plain-answer}

@@ -1,16 +1,14 @@
 -- In memory exactly the planned calls fail, so each step has the flag that the job's faults give it.
-use Rattle.std.specs.Prelude.{◌≡◌, ◌<◌, ℕ, zero, suc, ◌+◌, ◌&&◌, nat_lt, Bool, true, false, List, [], ◌∷◌, ◌++◌, length, map, get_or, Option, Some, None, IfSome, is_some}
-use Rattle.std.specs.List.{list_all, range_with_len}
+use Rattle.std.specs.Prelude.{◌≡◌, ◌<◌, ℕ, suc, ◌+◌, ◌&&◌, Bool, true, List, [], ◌∷◌, ◌++◌, length, get_or, Option, Some, None, IfSome, is_some}
+use Rattle.std.specs.List.{list_all}
 use Rattle.std.proofs.Common.{refl, sym, ap, subst, ◌∙◌, arith}
 use Rattle.std.proofs.lemmas.Bool.{ltb-true}
 use Rattle.std.proofs.lemmas.List.FromFn.{get_or-map-range_with_len, length-map-range_with_len}
-use Rattle.xv_wire.specs.Wire.{Counted as WireCounted}
-use Rattle.xv_device.specs.Device.{Counted as DeviceCounted}
 use Rattle.xv_model.specs.Job.{Job}
-use Rattle.xv_model.specs.View.{View, first_view}
-use Rattle.xv_model.specs.Wait.{Event, wait}
+use Rattle.xv_model.specs.View.{first_view}
+use Rattle.xv_model.specs.Wait.{Event}
 use Rattle.xv_model.specs.Effect.{Turn}
-use Rattle.xv_model.specs.Step.{Entry, Call, NoCall, SourceRead, SourceWrite, DestRead, DestWrite, DestFlush, Put, Take, AckPut, AckTake, is_call, calls, call_of, step, turn, flag, entry_of, is_flagged, is_wait, is_faithful}
+use Rattle.xv_model.specs.Step.{Entry, Call, NoCall, SourceRead, SourceWrite, DestRead, DestWrite, DestFlush, Put, Take, AckPut, AckTake, calls, call_of, step, turn, flag, entry_of, is_flagged, is_faithful}
 use Rattle.xv_model.specs.Outside.{calls_of_kind}
 use Rattle.xv_job.specs.Written.{Written, job_of}
 use Rattle.xv_core.specs.Seen.{Seen, OnWire, no_wire, view_of, wire}
@@ -18,9 +16,8 @@ use Rattle.xv_core.specs.Plans.{takes_met, FollowsIf, follows}
 use Rattle.xv_core.specs.Rising.{BothTold, SourceRises, DestRises, PutsRise, MeetsRise}
 use Rattle.xv_core.specs.Stepped.{IsStep, tells_plans}
 use Rattle.xv_core.specs.Keeping.{IsKept}
-use Rattle.xv_parts.specs.Plans.{numbers_of}
 use Rattle.xv_parts.specs.Memory.{stream_begun, begun_in_memory, IsInMemory}
-use Rattle.xv_parts.proofs.Listed.{is_in_job, AllFollow, faithful-from}
+use Rattle.xv_parts.proofs.Listed.{AllFollow, faithful-from}
 use Rattle.xv_parts.proofs.Stepping.{calls-after, planned-last, flag-is}
 use Rattle.xv_parts.proofs.Staying.{stays, view-after}
 

@@ -1,9 +1,8 @@
 -- What a step in memory reads is what the unmigrated guest reads there.
-use Rattle.std.specs.Prelude.{◌≡◌, ℕ, ◌&&◌, Bool, true, List, [], ◌++◌, length, drop}
-use Rattle.std.proofs.Common.{refl, sym, ap, subst, ◌∙◌}
+use Rattle.std.specs.Prelude.{◌≡◌, ℕ, ◌&&◌, Bool, List, ◌++◌, length, drop}
+use Rattle.std.proofs.Common.{sym, ap, subst, ◌∙◌}
 use Rattle.std.proofs.Math.Seq.{drop-append_seam}
-use Rattle.xv_model.specs.Job.{Job}
-use Rattle.xv_model.specs.Guest.{Ended, read_bytes, reads}
+use Rattle.xv_model.specs.Guest.{read_bytes, reads}
 use Rattle.xv_model.specs.View.{View}
 use Rattle.xv_model.specs.Wait.{Event}
 use Rattle.xv_model.specs.Effect.{Turn}

@@ -1,12 +1,12 @@
 -- A migration begins in memory, and every step leaves it there.
-use Rattle.std.specs.Prelude.{◌≡◌, ◌<◌, ℕ, nat_lt, ◌||◌, Bool, true, false, List, ◌++◌, length}
+use Rattle.std.specs.Prelude.{◌≡◌, ℕ, nat_lt, ◌||◌, Bool, true, false}
 use Rattle.std.proofs.Common.{refl, sym, ap, subst, ◌∙◌, arith}
 use Rattle.std.proofs.lemmas.Bool.Decides.{nat_tests}
 use Rattle.xv_model.specs.Job.{Job}
 use Rattle.xv_model.specs.View.{View, number, is_switched}
 use Rattle.xv_model.specs.Wait.{Event}
 use Rattle.xv_model.specs.Effect.{Turn}
-use Rattle.xv_model.specs.Step.{Entry, run, step, turn, entry_of, is_flagged}
+use Rattle.xv_model.specs.Step.{run, step, is_flagged}
 use Rattle.xv_model.specs.Report.{is_written}
 use Rattle.xv_model.proofs.Contents.Unwritten.{none-before, not_switched-before}
 use Rattle.xv_job.specs.Written.{Written, job_of}

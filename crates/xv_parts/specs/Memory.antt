@@ -1,5 +1,5 @@
 -- A migration over devices and wires in memory: how it begins with its job, and what holds of it from then on.
-use Rattle.std.specs.Prelude.{◌≡◌, ℕ, List, [], map}
+use Rattle.std.specs.Prelude.{ℕ, List, [], map}
 use Rattle.std.specs.List.{range_with_len}
 use Rattle.xv_base.specs.declared.pattern.Init.{Init}
 use Rattle.xv_device.specs.Device.{Plan as DevicePlan}

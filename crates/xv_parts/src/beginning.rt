@@ -1,12 +1,12 @@
 //! How a migration begins in memory.
 
-ghost use Rattle.std.specs.Prelude.{◌≡◌, ◌≤◌, ◌<◌, ℕ, length, map, get_or, IfOk};
+ghost use Rattle.std.specs.Prelude.{◌≡◌, ◌≤◌, ◌<◌, ℕ, [], length, map, get_or, IfOk};
 ghost use Rattle.std.specs.List.{range_with_len};
 ghost use Rattle.xv_base.specs.Units.{units};
 ghost use Rattle.xv_device.specs.Memory.{fresh as fresh_device, told as told_device, no_init};
 ghost use Rattle.xv_job.specs.Written.{job_of};
 ghost use Rattle.xv_core.specs.Beginning.{IsDeviceFor, stream_room, back_room};
-ghost use Rattle.xv_parts.specs.Plans.{back_plan};
+ghost use Rattle.xv_parts.specs.Plans.{source_plan, dest_plan, back_plan};
 ghost use Rattle.xv_parts.specs.Memory.{pipe_begun, stream_pipe, begun_in_memory};
 
 use crate::plans::{back_plan, dest_plan, source_plan, stream_plan};
@@ -29,8 +29,8 @@ const PIECE: u32 = 700;
 pub fn begin(alloc: Global, job: Job) -> Result<Machine, NoMemory>
     ensures begun { IfOk result (λ machine. machine ≡ begun_in_memory job) }
 {
-    let source = device(alloc, &job, &job.init, source_plan(alloc, &job.faults)?)?;
-    let dest = device(alloc, &job, &[], dest_plan(alloc, &job.faults)?)?;
+    let source = source(alloc, &job)?;
+    let dest = dest(alloc, &job)?;
     let streams = streams(alloc, &job)?;
     let back = way_back(alloc, &job)?;
     match Migration::start(alloc, job, source, dest, streams, back) {
@@ -39,13 +39,26 @@ pub fn begin(alloc: Global, job: Job) -> Result<Machine, NoMemory>
     }
 }
 
+/// The source, whose units begin as the job says.
+fn source(alloc: Global, job: &Job) -> Result<MemDevice, NoMemory>
+    ensures begun { IfOk result (λ device. device ≡ fresh_device job.now.shape job.now.init (source_plan job.now.faults)) }
+    ensures fits { IfOk result (λ device. IsDeviceFor (job_of job.now) (told_device device)) }
+{
+    let plan = source_plan(alloc, &job.faults)?;
+    device(alloc, job, &job.init, plan)
+}
+
+/// The destination, whose units begin as zeros.
+fn dest(alloc: Global, job: &Job) -> Result<MemDevice, NoMemory>
+    ensures begun { IfOk result (λ device. device ≡ fresh_device job.now.shape [] (dest_plan job.now.faults)) }
+    ensures fits { IfOk result (λ device. IsDeviceFor (job_of job.now) (told_device device)) }
+{
+    let plan = dest_plan(alloc, &job.faults)?;
+    device(alloc, job, &[], plan)
+}
+
 /// A device over the job's units, which begin so.
-fn device(
-    alloc: Global,
-    job: &Job,
-    init: &[Init],
-    plan: DevicePlan,
-) -> Result<MemDevice, NoMemory>
+fn device(alloc: Global, job: &Job, init: &[Init], plan: DevicePlan) -> Result<MemDevice, NoMemory>
     requires { (i : ℕ) → i < length init.now → (get_or init.now i no_init).unit.0 < units job.now.shape }
     ensures fresh { IfOk result (λ device. device ≡ fresh_device job.now.shape init.now plan) }
     ensures fits { IfOk result (λ device. IsDeviceFor (job_of job.now) (told_device device)) }

@@ -9,6 +9,8 @@
 mod beginning;
 mod laws;
 mod plans;
+#[cfg(test)]
+mod tests;
 
 pub use beginning::{Machine, begin};
 pub use laws::{

@@ -50,11 +50,7 @@ pub(crate) fn dest_plan(alloc: Global, faults: &[Fault]) -> Result<DevicePlan, N
 
 /// The plan of a stream's wire.
 /// Errors: want of memory.
-pub(crate) fn stream_plan(
-    alloc: Global,
-    faults: &[Fault],
-    stream: u8,
-) -> Result<WirePlan, NoMemory>
+pub(crate) fn stream_plan(alloc: Global, faults: &[Fault], stream: u8) -> Result<WirePlan, NoMemory>
     ensures { IfOk result (λ plan. plan ≡ stream_plan faults.now stream) }
 {
     Ok(WirePlan {

@@ -1,4 +1,4 @@
-use Rattle.std.proofs.Common.{ℕ, ◌≤◌, arith}
+use Rattle.std.proofs.Common.{◌≤◌, arith}
 use Rattle.xv_parts.proofs.Rooms.{greatest, room-fits}
 use Rattle.xv_parts.proofs.beginning.stream_room.Goals as goal
 use Rattle.xv_parts.proofs.beginning.stream_room.Goals.{then-job-eq1, else-job-eq1}
