@@ -1,25 +1,23 @@
 -- What is fresh is a migration's state, in which nothing has happened.
-use Rattle.std.specs.Prelude.{◌≡◌, ◌≤◌, ◌<◌, ℕ, zero, suc, ◌+◌, ◌*◌, List, [], ◌∷◌, ◌++◌, length, map, get_or, Option, Some, None, IfSome}
-use Rattle.std.specs.List.{sum_by}
+use Rattle.std.specs.Prelude.{◌≡◌, ◌≤◌, ◌<◌, ℕ, zero, suc, List, [], ◌∷◌, length, map, get_or, None, IfSome}
 use Rattle.std.proofs.Common.{refl, sym, ap, subst, ◌∙◌, arith}
 use Rattle.xv_base.specs.Units.{Shape, units}
 use Rattle.xv_base.specs.declared.event.Phase.TheVariants.{Running}
-use Rattle.xv_base.specs.declared.limits.Config.{Config}
 use Rattle.xv_device.specs.Told.{Told}
 use Rattle.xv_wire.specs.Told.{Told as WireTold}
-use Rattle.xv_frame.specs.Frame.{Message, Frame, AckFrame, Each, IsFrame, IsMessage, spelled, all_spelled}
+use Rattle.xv_frame.specs.Frame.{Message, Each, IsFrame, IsMessage}
 use Rattle.xv_model.specs.Job.{Job, IsGoodJob, unit_count}
 use Rattle.xv_model.specs.Guest.{Ended}
 use Rattle.xv_model.specs.Step.{Entry}
-use Rattle.xv_streams.specs.Streamed.{Streamed, LaneSeen, no_lane, lane, fresh_lane}
-use Rattle.xv_streams.specs.Carried.{most_bytes, most_messages, frames_of, joined as joined_groups, IsCarried}
+use Rattle.xv_streams.specs.Streamed.{Streamed, LaneSeen, no_lane, fresh_lane}
+use Rattle.xv_streams.specs.Carried.{most_messages, frames_of, joined as joined_groups, IsCarried}
 use Rattle.xv_streams.specs.Returned.{Returned, AreCarried}
 use Rattle.xv_source.specs.Half.{Source}
 use Rattle.xv_dest.specs.Half.{Dest}
 use Rattle.xv_job.specs.Written.{Written, job_of}
-use Rattle.xv_core.specs.Seen.{Seen, OnWire, no_wire}
-use Rattle.xv_core.specs.State.{State, state_of, seen_of, on_wire, on_back, ArePartsOf, IsRunning, IsCarriedOver}
-use Rattle.xv_core.specs.Starting.{AllCountLittle, PutsLittle, CountsNoPiece, IsIdle}
+use Rattle.xv_core.specs.Seen.{OnWire, no_wire}
+use Rattle.xv_core.specs.State.{State, state_of, seen_of, on_wire, on_back, ArePartsOf}
+use Rattle.xv_core.specs.Starting.{PutsLittle, CountsNoPiece, IsIdle}
 use Rattle.xv_core.specs.Kept.{IsState}
 use Rattle.xv_core.specs.Beginning.{IsDeviceFor, IsWireFor, stream_room, fresh_wire}
 use Rattle.xv_core.specs.Fresh.{IsFreshLane, AreFresh}

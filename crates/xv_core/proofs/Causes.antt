@@ -1,16 +1,16 @@
 -- Where an answer tells that a call failed, the count of faults of its object rose.
-use Rattle.std.specs.Prelude.{◌≡◌, ◌≤◌, ℕ, ◌+◌, ◌^◌, ◌-◌, ◌==◌, ◌&&◌, min, Bool, true, false, List, Option, Some, None, if◌then◌else◌}
+use Rattle.std.specs.Prelude.{◌≡◌, ℕ, ◌==◌, ◌&&◌, Bool, true, false, Option, Some, None, if◌then◌else◌}
 use Rattle.std.proofs.Common.{refl, sym, ap, subst, ◌∙◌}
 use Rattle.xv_base.specs.declared.event.Event.TheVariants.{Guest, Begin, Read, Advance, Release, Round, Page, Send, Deliver, Apply, Ack, Credit, Stun, Switch, Cancel}
-use Rattle.xv_base.specs.declared.answer.Turn.TheVariants.{Done, Queued, Faulted, Wait as Waits, Failed}
+use Rattle.xv_base.specs.declared.answer.Turn.TheVariants.{Queued}
 use Rattle.xv_model.specs.Job.{Job}
 use Rattle.xv_model.specs.View.{View}
 use Rattle.xv_model.specs.Wait.{Event, Why, wait, next_aim, is_join}
-use Rattle.xv_model.specs.Effect.{Turn, answer, fault_answer}
-use Rattle.xv_model.specs.Step.{turn, turn_by, breaks, is_flagged, is_wait, is_call, call}
-use Rattle.xv_model.specs.Outside.{Part, Outside, NoOutside, ReadSource, WriteSource, ReadDest, WriteDest, FlushDest, PutOn, TakeFrom, PutBack, TakeBack, outside, kind}
-use Rattle.xv_core.specs.Seen.{Seen, OnWire, wire}
-use Rattle.xv_core.specs.State.{State, seen_of, on_wire}
+use Rattle.xv_model.specs.Effect.{Turn, answer}
+use Rattle.xv_model.specs.Step.{turn, turn_by, breaks, is_flagged, is_call, call}
+use Rattle.xv_model.specs.Outside.{Outside, NoOutside, ReadSource, WriteSource, ReadDest, WriteDest, FlushDest, PutOn, TakeFrom, PutBack, TakeBack, outside, kind}
+use Rattle.xv_core.specs.Seen.{OnWire, wire}
+use Rattle.xv_core.specs.State.{State, seen_of}
 use Rattle.xv_streams.specs.Streamed.{lane}
 use Rattle.xv_core.specs.Happening.{OneCall}
 use Rattle.xv_core.specs.Stepped.{Rose, RoseOn}

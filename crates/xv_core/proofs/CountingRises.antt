@@ -2,9 +2,7 @@
 use Rattle.std.specs.Prelude.{◌≡◌, ◌≤◌, ◌<◌, ℕ, ◌+◌, Bool, true, false, length, Option, Some, None, IfSome}
 use Rattle.std.proofs.Common.{arith, refl, ap, sym, ◌∙◌, subst}
 use Rattle.std.proofs.lemmas.Bool.{eqb-true}
-use Rattle.xv_base.specs.Units.{units}
 use Rattle.xv_device.specs.Device.{write_count}
-use Rattle.xv_device.specs.Told.{IsSized}
 use Rattle.xv_wire.specs.Wire.{Counted as WireCounted}
 use Rattle.xv_model.specs.Job.{Job, unit_count}
 use Rattle.xv_model.specs.View.{View}

@@ -1,6 +1,6 @@
 -- No number that devices and wires count is near the last of its type: each rose by no more than the journal's entries.
-use Rattle.std.specs.Prelude.{◌≡◌, ◌≤◌, ◌<◌, ℕ, ◌+◌, ◌^◌, ◌||◌, not, Bool, true, false, List, [], ◌∷◌, ◌++◌, length, count_by, Option, Some, None, IfSome, if◌then◌else◌}
-use Rattle.std.proofs.Common.{arith, refl, ap}
+use Rattle.std.specs.Prelude.{◌≡◌, ◌≤◌, ◌<◌, ℕ, ◌+◌, ◌^◌, ◌||◌, not, Bool, true, false, List, [], ◌∷◌, length, Option, Some, None, IfSome, if◌then◌else◌}
+use Rattle.std.proofs.Common.{arith, refl}
 use Rattle.std.proofs.lemmas.List.{length-append}
 use Rattle.std.proofs.lemmas.List.Sums.{count_by-le-length}
 use Rattle.xv_device.specs.Device.{Counted as DeviceCounted}
@@ -8,7 +8,7 @@ use Rattle.xv_device.specs.Told.{HasRoomToCount}
 use Rattle.xv_wire.specs.Wire.{Counted as WireCounted}
 use Rattle.xv_model.specs.Job.{Job}
 use Rattle.xv_model.specs.View.{View, first_view}
-use Rattle.xv_model.specs.Step.{Entry, Call, SourceRead, SourceWrite, DestRead, DestWrite, DestFlush, AckPut, Put, step, call, same_call, is_call, is_flagged, calls_from, calls}
+use Rattle.xv_model.specs.Step.{Entry, Call, SourceRead, SourceWrite, DestRead, DestWrite, DestFlush, AckPut, Put, step, same_call, is_call, is_flagged, calls_from, calls}
 use Rattle.xv_model.specs.Outside.{Outside, kind, outside, unless_failed, calls_made_from, calls_made, calls_of_kind, source_writes, dest_writes, is_source_write, is_dest_write}
 use Rattle.xv_job.specs.Written.{job_of}
 use Rattle.xv_core.specs.Seen.{wire}

@@ -7,7 +7,6 @@ use Rattle.std.proofs.lemmas.List.Sums.{sum_by-cons}
 use Rattle.xv_base.specs.declared.unit.DiskShape.{DiskShape}
 use Rattle.xv_base.specs.Units.{blocks, blocks_of, units}
 use Rattle.xv_base.proofs.Within.{good_within}
-use Rattle.xv_base.specs.declared.event.Phase.TheVariants.{Cancelled, Failed}
 use Rattle.xv_model.specs.Job.{Job, IsGoodJob, disk_of, unit_count}
 use Rattle.xv_model.specs.View.{View, Disk, Outbox, no_disk, number, first_view, disk, front, least, is_running}
 use Rattle.xv_model.specs.Wait.{Event, Aim, Alone, Store, Join, Mirror, fits, next_operation, next_aim}

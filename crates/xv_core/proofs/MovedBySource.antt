@@ -1,5 +1,5 @@
 -- A send and a credit: what the source's half and its wires ensure of them is what such an event does to a migration.
-use Rattle.std.specs.Prelude.{◌≡◌, ℕ, ◌==◌, min, Bool, true, false, List, [], ◌∷◌, ◌++◌, length, take, drop, set, get_or, if◌then◌else◌}
+use Rattle.std.specs.Prelude.{◌≡◌, ℕ, ◌==◌, min, true, false, List, [], ◌∷◌, ◌++◌, length, take, drop, set, get_or, if◌then◌else◌}
 use Rattle.std.proofs.Common.{refl, ap, sym, subst, ◌∙◌}
 use Rattle.std.proofs.lemmas.List.{length-set}
 use Rattle.xv_base.specs.declared.event.Event.TheVariants.{Send, Credit}

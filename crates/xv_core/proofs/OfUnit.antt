@@ -1,13 +1,12 @@
 -- How many messages of a unit are outstanding: one for each version made and not written.
-use Rattle.std.specs.Prelude.{◌≡◌, ◌≤◌, ◌<◌, ℕ, zero, suc, ◌+◌, ◌==◌, ◌&&◌, not, nat_lt, Bool, true, false, List, [], ◌∷◌, count_by, if◌then◌else◌}
-use Rattle.std.proofs.Common.{refl, sym, ap, ◌∙◌, arith, inl, inr}
+use Rattle.std.specs.Prelude.{◌≡◌, ◌≤◌, ℕ, zero, suc, ◌+◌, ◌==◌, ◌&&◌, not, nat_lt, Bool, true, false, List, [], ◌∷◌, count_by, if◌then◌else◌}
+use Rattle.std.proofs.Common.{refl, ap, ◌∙◌, arith, inl, inr}
 use Rattle.std.proofs.lemmas.Bool.{cases_lt, cases_eq, and_parts, eqb-true, eq-eqb, ne_eqb, ltb-false, lt-ltb, le-ltb}
 use Rattle.std.proofs.lemmas.List.Sums.{sum_by-cons}
 use Rattle.xv_base.specs.declared.operation.UnitHead.{UnitHead}
-use Rattle.xv_model.specs.Job.{Job}
 use Rattle.xv_model.specs.View.{View, number}
 use Rattle.xv_model.specs.Outstanding.{count, count_groups, count_streams, outstanding, of_unit, is_version}
-use Rattle.xv_model.specs.Invariant.{IsViewOf, EachVersionOnce}
+use Rattle.xv_model.specs.Invariant.{EachVersionOnce}
 use Rattle.xv_model.proofs.Bags.{is_version-from}
 
 -- a test that passes what one of two tests passes, which no message passes both

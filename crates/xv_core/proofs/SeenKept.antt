@@ -1,12 +1,12 @@
 -- What a migration's parts keep, as contracts see it.
-use Rattle.std.specs.Prelude.{◌≡◌, ◌≤◌, ◌<◌, ℕ, zero, suc, ◌&&◌, ◌||◌, nat_lt, Bool, true, false, List, [], ◌∷◌, ◌++◌, length, map, get_or, unwrap_or, if◌then◌else◌}
+use Rattle.std.specs.Prelude.{◌≡◌, ◌<◌, ℕ, zero, suc, ◌||◌, nat_lt, Bool, true, false, List, [], ◌∷◌, ◌++◌, length, map, get_or}
 use Rattle.std.proofs.Common.{refl, sym, ap, subst, ◌∙◌, arith}
 use Rattle.std.proofs.lemmas.Bool.{ltb-true}
 use Rattle.xv_base.specs.declared.operation.UnitHead.{UnitHead}
 use Rattle.xv_frame.specs.Frame.{Message, AckFrame, Each, message, all_spelled}
 use Rattle.xv_model.specs.Job.{Job, unit_count}
 use Rattle.xv_model.specs.Guest.{content}
-use Rattle.xv_model.specs.View.{View, number, stream, is_switched, is_live}
+use Rattle.xv_model.specs.View.{View, number, is_switched, is_live}
 use Rattle.xv_model.specs.Contents.{Contents, HoldsContents, unit_content, message_content}
 use Rattle.xv_model.specs.Report.{source_content, dest_length, is_written}
 use Rattle.xv_streams.specs.Streamed.{LaneSeen, lane, no_lane}
@@ -14,12 +14,11 @@ use Rattle.xv_streams.specs.Carried.{frames_of, IsCarried}
 use Rattle.xv_streams.specs.Fronts.{heads_of, heads_on, contents_on, contents_of as contents_in}
 use Rattle.xv_job.specs.Written.{job_of}
 use Rattle.xv_core.specs.Seen.{Seen, OnWire, wire}
-use Rattle.xv_core.specs.State.{State, seen_of, view, both_tell, contents_of, on_wire, IsRunning}
-use Rattle.xv_core.specs.Plans.{AllCarried}
+use Rattle.xv_core.specs.State.{State, seen_of, view, both_tell, contents_of}
 use Rattle.xv_core.specs.Kept.{IsState}
-use Rattle.xv_core.specs.Keeping.{HoldsGuest, IsKept, guest_message, guest_messages}
+use Rattle.xv_core.specs.Keeping.{IsKept, guest_message, guest_messages}
 use Rattle.xv_core.proofs.CountingWires.{wire-is}
-use Rattle.xv_core.proofs.Joined.{Shows, shows, view-holds}
+use Rattle.xv_core.proofs.Joined.{shows, view-holds}
 use Rattle.xv_core.proofs.Stays.{all-carried}
 
 -- messages whose contents are those of their heads

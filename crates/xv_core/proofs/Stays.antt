@@ -1,20 +1,16 @@
 -- An event that happened to the parts of a migration leaves all that they keep, and is a step as contracts see it.
-use Rattle.std.specs.Prelude.{◌≡◌, ◌≤◌, ℕ, ◌+◌, ◌&&◌, min, Bool, true, false, List, [], ◌∷◌, ◌++◌, length, if◌then◌else◌}
-use Rattle.std.proofs.Common.{refl, sym, ap, subst, ◌∙◌}
+use Rattle.std.specs.Prelude.{◌≡◌, ℕ}
+use Rattle.std.proofs.Common.{sym, ap, subst, ◌∙◌}
 use Rattle.xv_base.specs.Units.{Shape}
 use Rattle.xv_frame.specs.Frame.{Each}
-use Rattle.xv_streams.specs.Streamed.{Streamed, LaneSeen}
 use Rattle.xv_streams.specs.Carried.{IsCarried}
-use Rattle.xv_streams.specs.Returned.{Returned}
-use Rattle.xv_source.specs.Half.{Source}
-use Rattle.xv_dest.specs.Half.{Dest}
 use Rattle.xv_model.specs.Job.{Job, unit_count}
 use Rattle.xv_model.specs.Wait.{Event}
 use Rattle.xv_model.specs.Effect.{Turn}
-use Rattle.xv_model.specs.Step.{Entry, entry_of, is_flagged, is_wait}
-use Rattle.xv_model.specs.Outside.{Outside, NoOutside, ReadSource, WriteSource, ReadDest, WriteDest, FlushDest, PutOn, TakeFrom, PutBack, TakeBack, outside}
+use Rattle.xv_model.specs.Step.{is_flagged}
+use Rattle.xv_model.specs.Outside.{Outside, outside}
 use Rattle.xv_job.specs.Written.{Written, job_of}
-use Rattle.xv_core.specs.State.{State, IsRunning, IsCarriedOver, ArePartsOf, view, seen_of, on_source, on_dest}
+use Rattle.xv_core.specs.State.{State, IsCarriedOver, ArePartsOf, view, on_source, on_dest}
 use Rattle.xv_core.specs.Happening.{Happened}
 use Rattle.xv_core.specs.Plans.{AllCarried}
 use Rattle.xv_core.specs.Kept.{IsState}

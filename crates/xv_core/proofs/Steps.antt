@@ -1,5 +1,5 @@
 -- An event that happened, and a wait, are steps as contracts see them.
-use Rattle.std.specs.Prelude.{◌≡◌, ◌≤◌, ℕ, ◌+◌, Bool, true, false, List, [], ◌∷◌, ◌++◌, length, map, Option, Some, None, if◌then◌else◌}
+use Rattle.std.specs.Prelude.{◌≡◌, ◌≤◌, ℕ, Bool, true, false, List, [], ◌∷◌, ◌++◌, length, map, Option, Some, if◌then◌else◌}
 use Rattle.std.proofs.Common.{refl, sym, ap, subst, ◌∙◌, arith, append-nil}
 use Rattle.std.proofs.lemmas.List.{length-map}
 use Rattle.xv_base.specs.declared.answer.Turn.TheVariants.{Wait as Waits}
@@ -7,20 +7,20 @@ use Rattle.xv_model.specs.Guest.{read_bytes}
 use Rattle.xv_model.specs.View.{View}
 use Rattle.xv_model.specs.Wait.{Event, Why, wait}
 use Rattle.xv_model.specs.Effect.{Turn}
-use Rattle.xv_model.specs.Step.{Entry, Put, Take, AckPut, AckTake, step, view_by, turn, turn_by, breaks, entry_of, is_flagged, is_wait}
+use Rattle.xv_model.specs.Step.{Entry, Put, Take, AckPut, AckTake, step, view_by, turn_by, breaks, entry_of, is_flagged, is_wait}
 use Rattle.xv_model.specs.Outside.{outside}
 use Rattle.xv_wire.specs.Told.{Told as WireTold}
 use Rattle.xv_wire.specs.Wire.{Counted as WireCounted}
 use Rattle.xv_streams.specs.Streamed.{Streamed, LaneSeen}
 use Rattle.xv_streams.specs.Returned.{Returned}
-use Rattle.xv_job.specs.Written.{Written, job_of}
-use Rattle.xv_core.specs.Seen.{Seen, OnWire, wire}
+use Rattle.xv_job.specs.Written.{job_of}
+use Rattle.xv_core.specs.Seen.{OnWire, wire}
 use Rattle.xv_core.specs.State.{State, view, seen_of, on_source, on_dest, on_wire}
 use Rattle.xv_core.specs.Happening.{Happened, OneCall}
 use Rattle.xv_core.specs.Rising.{BothTold, PutsRise, MeetsRise, Rises, TakesRise}
 use Rattle.xv_core.specs.Kept.{IsState}
 use Rattle.xv_core.specs.Waiting.{IsStill, IsStillBack, AreStill, Waited}
-use Rattle.xv_core.specs.Stepped.{IsStep, IsAsBefore, RoseOn, ReadsMore, told_by}
+use Rattle.xv_core.specs.Stepped.{IsStep, IsAsBefore, ReadsMore, told_by}
 use Rattle.xv_core.proofs.Stays.{all-carried}
 use Rattle.xv_core.proofs.CountingRises.{rises, both-same}
 use Rattle.xv_core.proofs.PlansRise.{takes-rise}

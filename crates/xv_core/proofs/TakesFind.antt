@@ -23,7 +23,7 @@ use Rattle.xv_model.specs.Wait.{Event, wait, unless}
 use Rattle.xv_model.specs.Effect.{Turn}
 use Rattle.xv_model.specs.Step.{is_flagged}
 use Rattle.xv_job.specs.Written.{job_of}
-use Rattle.xv_core.specs.Seen.{OnWire, no_wire, wire}
+use Rattle.xv_core.specs.Seen.{OnWire, no_wire}
 use Rattle.xv_core.specs.State.{State, view, seen_of, on_wire}
 use Rattle.xv_core.specs.Happening.{Happened}
 use Rattle.xv_core.specs.Kept.{IsState}

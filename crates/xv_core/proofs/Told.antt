@@ -1,27 +1,25 @@
 -- What a migration tells is what its view says.
-use Rattle.std.specs.Prelude.{◌≡◌, ◌≤◌, ◌<◌, ℕ, zero, suc, ◌+◌, ◌-◌, ◌&&◌, not, nat_le, nat_lt, Bool, true, false, List, [], ◌∷◌, length, map, drop, get_or, Option, Some, None, sum, sum_by, count_by, if◌then◌else◌}
+use Rattle.std.specs.Prelude.{◌≡◌, ◌≤◌, ◌<◌, ℕ, zero, suc, ◌+◌, ◌-◌, ◌&&◌, not, nat_le, nat_lt, Bool, true, false, List, [], ◌∷◌, length, map, drop, get_or, Option, Some, None, sum, count_by, if◌then◌else◌}
 use Rattle.std.proofs.Common.{refl, sym, ap, subst, ◌∙◌, arith}
 use Rattle.std.proofs.lemmas.Bool.{ltb-true}
 use Rattle.std.proofs.lemmas.List.Sums.{sum_by-cons, sum_by-le-sum_by}
 use Rattle.xv_base.specs.declared.operation.Outcome.{Outcome}
 use Rattle.xv_base.specs.declared.operation.Outcome.TheVariants.{Done, Faulted}
-use Rattle.xv_base.specs.declared.event.Probe.{Probe}
-use Rattle.xv_base.specs.declared.event.Totals.{Totals}
 use Rattle.xv_wire.specs.Told.{Told as WireTold}
 use Rattle.xv_guest.specs.Log.{is_faulted, faulted}
-use Rattle.xv_model.specs.Job.{Job, UnitOp, trace}
+use Rattle.xv_model.specs.Job.{Job, UnitOp}
 use Rattle.xv_model.specs.Guest.{Ended, ended, is_done}
 use Rattle.xv_model.specs.View.{View, Phase, Side, Disk, no_disk, number, is_empty, queues_empty, side}
 use Rattle.xv_model.specs.Outstanding.{count, count_streams, of_unit}
 use Rattle.xv_model.specs.Report.{probe, totals}
 use Rattle.xv_model.specs.Work.{all_ended_from}
-use Rattle.xv_source.specs.Half.{Source, IsSourceOf, unsent}
-use Rattle.xv_dest.specs.Half.{Dest, unwritten}
+use Rattle.xv_source.specs.Half.{IsSourceOf, unsent}
+use Rattle.xv_dest.specs.Half.{unwritten}
 use Rattle.xv_streams.specs.Streamed.{LaneSeen}
 use Rattle.xv_job.specs.Written.{job_of}
 use Rattle.xv_core.specs.Seen.{Seen, OnWire, view_of}
 use Rattle.xv_core.specs.State.{State, IsRunning, view, seen_of, on_wire}
-use Rattle.xv_core.proofs.Joined.{Shows, shows, is_source_of, view-holds}
+use Rattle.xv_core.proofs.Joined.{shows, is_source_of, view-holds}
 use Rattle.xv_core.proofs.OfUnit.{outstanding-of, count-of}
 use Rattle.xv_core.proofs.Issued.{behind}
 

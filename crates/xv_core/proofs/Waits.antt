@@ -1,34 +1,25 @@
 -- A wait leaves all that a migration keeps.
-use Rattle.std.specs.Prelude.{◌≡◌, ◌≤◌, ◌<◌, ℕ, zero, suc, ◌+◌, ◌*◌, ◌^◌, ◌-◌, min, Bool, true, false, List, [], ◌∷◌, ◌++◌, length, map, get_or, set, Option, Some, None, IfSome}
-use Rattle.std.proofs.Common.{refl, sym, ap, subst, ◌∙◌, arith, append-nil}
+use Rattle.std.specs.Prelude.{◌≡◌, ◌≤◌, ◌<◌, ℕ, zero, suc, ◌+◌, ◌*◌, ◌^◌, List, [], ◌∷◌, length, map, get_or, set, IfSome}
+use Rattle.std.proofs.Common.{refl, sym, ap, subst, ◌∙◌, arith}
 use Rattle.xv_base.specs.Units.{Shape}
-use Rattle.xv_base.specs.declared.answer.Turn.TheVariants.{Wait as Waits}
 use Rattle.xv_frame.specs.Frame.{Message, Each}
 use Rattle.xv_wire.specs.Told.{Told as WireTold}
-use Rattle.xv_wire.specs.Wire.{Counted as WireCounted}
 use Rattle.xv_model.specs.View.{View, UnitHead}
-use Rattle.xv_model.specs.Wait.{Event, Why, wait}
-use Rattle.xv_model.specs.Effect.{Turn}
-use Rattle.xv_model.specs.Step.{Entry, turn, turn_by, breaks}
 use Rattle.xv_model.specs.Contents.{Contents, HoldsContents}
 use Rattle.xv_streams.specs.Streamed.{Streamed, LaneSeen, lane, no_lane}
 use Rattle.xv_streams.specs.Carried.{IsCarried, most_bytes}
 use Rattle.xv_streams.specs.Fronts.{heads_of, contents_of as contents_of_messages, heads_on, contents_on}
 use Rattle.xv_streams.specs.Returned.{Returned, AreCarried}
 use Rattle.xv_job.specs.Written.{job_of}
-use Rattle.xv_core.specs.Seen.{Seen, OnWire, wire, no_wire}
-use Rattle.xv_core.specs.State.{State, IsRunning, IsCarriedOver, ArePartsOf, view, shown, both_tell, contents_of, seen_of, on_wire, on_back}
+use Rattle.xv_core.specs.Seen.{OnWire, wire}
+use Rattle.xv_core.specs.State.{State, IsRunning, IsCarriedOver, ArePartsOf, view, shown, contents_of, seen_of}
 use Rattle.xv_core.specs.Plans.{ArePieces, IsPieces, frame_length, FollowsPlans, FollowsIf, takes_met}
 use Rattle.xv_core.specs.Counting.{CountsFit, FlagsAreCaused, AreCaused}
-use Rattle.xv_core.specs.Rising.{Rises, TakesRise}
 use Rattle.xv_core.specs.Kept.{IsState}
 use Rattle.xv_core.specs.Waiting.{IsStill, IsStillBack, AreStill, Waited}
-use Rattle.xv_core.specs.Stepped.{IsStep, IsAsBefore, told_by}
 use Rattle.xv_model.specs.Step.{Put, Take, AckPut, AckTake}
 use Rattle.xv_model.specs.Outside.{calls_of_kind}
 use Rattle.xv_core.proofs.CountingWires.{wire-is}
-use Rattle.xv_core.proofs.CountingRises.{rises-refl}
-use Rattle.xv_core.proofs.PlansRise.{takes-rise-refl}
 
 -- of each stream by its number
 still-none : (l : LaneSeen) → IsStill l l

@@ -1,11 +1,11 @@
 -- What a migration asks of its devices and wires where it begins, and how it is seen then.
-use Rattle.std.specs.Prelude.{◌≡◌, ◌≤◌, ℕ, ◌*◌, List, [], map, length, IfSome, All}
+use Rattle.std.specs.Prelude.{◌≡◌, ◌≤◌, ℕ, ◌*◌, List, [], IfSome}
 use Rattle.xv_device.specs.Told.{Told as DeviceTold, IsSized}
 use Rattle.xv_wire.specs.Told.{Told as WireTold}
-use Rattle.xv_model.specs.Job.{Job, IsGoodJob}
+use Rattle.xv_model.specs.Job.{Job}
 use Rattle.xv_model.specs.Contents.{first_source}
 use Rattle.xv_streams.specs.Carried.{most_bytes}
-use Rattle.xv_job.specs.Written.{Written, job_of}
+use Rattle.xv_job.specs.Written.{Written}
 use Rattle.xv_core.specs.Seen.{Seen, OnDevice, OnWire}
 use Rattle.xv_core.specs.Starting.{CountsLittle, PutsLittle, CountsNoPiece}
 

@@ -1,7 +1,7 @@
 -- The one call on the outside that an event is made of, as what the devices tell before and after.
 use Rattle.std.specs.Prelude.{◌≡◌, ℕ, Bool, true, false, List, length}
 use Rattle.xv_device.specs.Device.{DeviceCall, ReadRange, PatchRange, WriteUnit, FlushAll}
-use Rattle.xv_device.specs.Told.{Told, CallMade}
+use Rattle.xv_device.specs.Told.{CallMade}
 use Rattle.xv_model.specs.Outside.{Part, Outside, NoOutside, ReadSource, WriteSource, ReadDest, WriteDest, FlushDest, PutOn, TakeFrom, PutBack, TakeBack}
 use Rattle.xv_core.specs.Seen.{OnDevice}
 

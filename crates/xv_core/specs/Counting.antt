@@ -1,13 +1,12 @@
 -- How far what devices and wires count has come, against the journal; and that flagged entries are within the faults.
-use Rattle.std.specs.Prelude.{◌≡◌, ◌≤◌, ◌<◌, ℕ, ◌+◌, ◌-◌, ◌^◌, ◌||◌, min, Bool, true, false, List, [], ◌∷◌, count_by, IfSome, if◌then◌else◌}
-use Rattle.xv_device.specs.Device.{write_count, Counted as DeviceCounted}
-use Rattle.xv_wire.specs.Wire.{Counted as WireCounted}
+use Rattle.std.specs.Prelude.{◌≤◌, ◌<◌, ℕ, ◌+◌, ◌-◌, ◌^◌, ◌||◌, min, Bool, List, [], ◌∷◌, count_by, IfSome, if◌then◌else◌}
+use Rattle.xv_device.specs.Device.{write_count}
 use Rattle.xv_model.specs.Job.{Job}
 use Rattle.xv_model.specs.View.{View, first_view}
-use Rattle.xv_model.specs.Step.{Entry, Call, NoCall, SourceRead, SourceWrite, DestRead, DestWrite, DestFlush, Put, Take, AckPut, AckTake, call, same_call, step, is_flagged}
+use Rattle.xv_model.specs.Step.{Entry, Call, SourceRead, SourceWrite, DestRead, DestWrite, DestFlush, Put, Take, AckPut, AckTake, call, same_call, step, is_flagged}
 use Rattle.xv_model.specs.Outside.{calls_of_kind, source_writes, dest_writes}
 use Rattle.xv_job.specs.Written.{job_of}
-use Rattle.xv_core.specs.Seen.{Seen, OnDevice, OnWire, wire}
+use Rattle.xv_core.specs.Seen.{Seen, wire}
 
 -- every number stood below 2^32 at the start, and rose by no more than the journal's calls
 pub record CountsFit (m : Seen) : Type 0 where

@@ -1,16 +1,14 @@
 -- That an event happened to the parts of a migration.
-use Rattle.std.specs.Prelude.{◌≡◌, ℕ, Bool, true, false, List, [], ◌∷◌, ◌++◌, length, set, get_or}
-use Rattle.xv_model.specs.Job.{Job}
+use Rattle.std.specs.Prelude.{◌≡◌, ℕ, Bool, true, false, List, [], ◌∷◌, ◌++◌, length, set}
 use Rattle.xv_model.specs.Guest.{reads}
-use Rattle.xv_model.specs.View.{View}
 use Rattle.xv_model.specs.Wait.{Event, fits}
 use Rattle.xv_model.specs.Effect.{Turn}
-use Rattle.xv_model.specs.Step.{Entry, turn, step, is_flagged, is_wait}
+use Rattle.xv_model.specs.Step.{turn, step, is_flagged, is_wait}
 use Rattle.xv_model.specs.Contents.{step_contents}
 use Rattle.xv_model.specs.Outside.{Outside, NoOutside, ReadSource, WriteSource, ReadDest, WriteDest, FlushDest, PutOn, TakeFrom, PutBack, TakeBack, outside}
 use Rattle.xv_job.specs.Written.{job_of}
 use Rattle.xv_frame.specs.Frame.{Message}
-use Rattle.xv_streams.specs.Streamed.{Streamed, LaneSeen, lane}
+use Rattle.xv_streams.specs.Streamed.{Streamed, lane}
 use Rattle.xv_streams.specs.Fronts.{PutsGroup, TakesFront}
 use Rattle.xv_streams.specs.Returned.{Returned, AckPut, TakesFirst}
 use Rattle.xv_core.specs.Calls.{CallsSource, CallsDest}

@@ -1,7 +1,7 @@
 -- What every migration keeps, as contracts see it.
-use Rattle.std.specs.Prelude.{◌≡◌, ◌≤◌, ◌<◌, ℕ, ◌&&◌, Bool, true, false, List, [], ◌++◌, length, map, Option, unwrap_or, is_some}
+use Rattle.std.specs.Prelude.{◌≡◌, ◌<◌, ℕ, ◌&&◌, Bool, true, List, [], ◌++◌, length, map, unwrap_or, is_some}
 use Rattle.std.specs.List.{list_all}
-use Rattle.xv_frame.specs.Frame.{Message, Frame, AckFrame, message, all_spelled}
+use Rattle.xv_frame.specs.Frame.{Message, AckFrame, message, all_spelled}
 use Rattle.xv_streams.specs.Carried.{frames_of}
 use Rattle.xv_model.specs.Job.{Job, IsGoodJob, unit_count}
 use Rattle.xv_model.specs.Guest.{reads}
@@ -13,7 +13,7 @@ use Rattle.xv_model.specs.Guest.{content}
 use Rattle.xv_model.specs.Contents.{unit_content, message_content}
 use Rattle.xv_model.specs.Invariant.{IsViewOf}
 use Rattle.xv_job.specs.Written.{job_of}
-use Rattle.xv_core.specs.Seen.{Seen, OnDevice, OnWire, view_of, wire}
+use Rattle.xv_core.specs.Seen.{Seen, OnDevice, view_of, wire}
 use Rattle.xv_core.specs.Counting.{CountsFit, FlagsAreCaused}
 use Rattle.xv_core.specs.Plans.{FollowsPlans}
 

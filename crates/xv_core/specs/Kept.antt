@@ -1,5 +1,5 @@
 -- All that the parts of a migration keep, and its fields as these parts.
-use Rattle.std.specs.Prelude.{◌≡◌, ◌≤◌, ℕ, length, vec_capacity}
+use Rattle.std.specs.Prelude.{◌≡◌, ◌≤◌, ℕ, length}
 use Rattle.xv_model.specs.Job.{operation_count, unit_count}
 use Rattle.xv_model.specs.Work.{bound}
 use Rattle.xv_job.specs.Written.{Written, job_of}

@@ -1,9 +1,9 @@
 -- That a journal's entries are flagged exactly where the plans that are told have the numbers of their calls.
-use Rattle.std.specs.Prelude.{◌≡◌, ◌≤◌, ◌<◌, ℕ, ◌+◌, ◌-◌, ◌&&◌, Bool, true, false, List, [], ◌∷◌, length, map, IfSome, if◌then◌else◌}
+use Rattle.std.specs.Prelude.{◌≡◌, ◌≤◌, ℕ, ◌+◌, ◌-◌, ◌&&◌, Bool, true, false, List, [], ◌∷◌, length, map, IfSome, if◌then◌else◌}
 use Rattle.xv_device.specs.Device.{is_listed}
 use Rattle.xv_wire.specs.Wire.{Counted}
-use Rattle.xv_frame.specs.Frame.{Message, AckFrame, Each, spelled}
-use Rattle.xv_streams.specs.Streamed.{LaneSeen, lane}
+use Rattle.xv_frame.specs.Frame.{Message, Each, spelled}
+use Rattle.xv_streams.specs.Streamed.{lane}
 use Rattle.xv_streams.specs.Carried.{frame_of, IsCarried}
 use Rattle.xv_streams.specs.Returned.{AreCarried}
 use Rattle.xv_model.specs.Job.{Job}

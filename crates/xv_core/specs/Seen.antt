@@ -1,9 +1,8 @@
 -- What contracts see of a migration: its job, its journal, the bytes that its guests have read, and what its devices and
 -- wires tell. The view is the run of the journal.
-use Rattle.std.specs.Prelude.{◌≡◌, ◌≤◌, ◌<◌, ℕ, ◌+◌, List, [], ◌++◌, length, get_or, None}
+use Rattle.std.specs.Prelude.{ℕ, List, [], get_or, None}
 use Rattle.xv_device.specs.Told.{Told as DeviceTold}
 use Rattle.xv_wire.specs.Told.{Told as WireTold}
-use Rattle.xv_model.specs.Job.{Job}
 use Rattle.xv_model.specs.Step.{Entry, run}
 use Rattle.xv_model.specs.View.{View}
 use Rattle.xv_job.specs.Written.{Written, job_of}

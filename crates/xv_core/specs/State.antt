@@ -1,16 +1,13 @@
 -- The parts of a migration as plain values, and how they show a view and its contents: what only proofs need, the mark and
 -- the first `at`, is nowhere in them.
-use Rattle.std.specs.Prelude.{◌≡◌, ◌≤◌, ◌<◌, ℕ, ◌*◌, ◌&&◌, Bool, true, false, List, [], ◌∷◌, ◌++◌, length, map, Option, unwrap_or, is_some}
+use Rattle.std.specs.Prelude.{◌≡◌, ◌≤◌, ◌<◌, ℕ, ◌*◌, ◌&&◌, Bool, true, List, [], length, map, Option, unwrap_or, is_some}
 use Rattle.std.specs.List.{list_all}
-use Rattle.xv_base.specs.Units.{Shape}
 use Rattle.xv_model.specs.Job.{Job, IsGoodJob}
 use Rattle.xv_model.specs.Guest.{Ended, reads}
-use Rattle.xv_model.specs.View.{View, Phase, is_live}
-use Rattle.xv_model.specs.Wait.{Event, fits}
-use Rattle.xv_model.specs.Effect.{Turn}
-use Rattle.xv_model.specs.Step.{Entry, turn, step, run, is_run, is_flagged, is_wait}
-use Rattle.xv_model.specs.Contents.{Contents, HoldsContents, step_contents}
-use Rattle.xv_model.specs.Outside.{outside}
+use Rattle.xv_model.specs.View.{View, Phase}
+use Rattle.xv_model.specs.Wait.{fits}
+use Rattle.xv_model.specs.Step.{Entry, run, is_run}
+use Rattle.xv_model.specs.Contents.{Contents, HoldsContents}
 use Rattle.xv_job.specs.Written.{Written, job_of}
 use Rattle.xv_frame.specs.Frame.{Each}
 use Rattle.xv_streams.specs.Streamed.{Streamed, LaneSeen, lane}

@@ -1,6 +1,6 @@
 -- That a migration waited: nothing moved, though a wire may have counted a fault of a take that found nothing.
-use Rattle.std.specs.Prelude.{◌≡◌, ◌≤◌, ℕ, List, [], ◌∷◌, ⊤}
-use Rattle.xv_streams.specs.Streamed.{Streamed, LaneSeen}
+use Rattle.std.specs.Prelude.{◌≡◌, ◌≤◌, List, [], ◌∷◌, ⊤}
+use Rattle.xv_streams.specs.Streamed.{LaneSeen}
 use Rattle.xv_streams.specs.Returned.{Returned}
 use Rattle.xv_core.specs.State.{State}
 

@@ -1,13 +1,12 @@
 -- Each operation of a made job may act on its machine, and is of at most four unit operations.
-use Rattle.std.proofs.Common.{◌≡◌, ◌==◌, ◌||◌, ℕ, zero, suc, ◌+◌, ◌*◌, ◌%◌, ◌^◌, ◌<◌, ◌≤◌, Bool, false, List, [], ◌∷◌, length, None, nat_le, nat_lt, get_or, refl, arith}
+use Rattle.std.proofs.Common.{◌≡◌, ◌==◌, ℕ, zero, suc, ◌+◌, ◌*◌, ◌%◌, ◌<◌, ◌≤◌, false, List, [], ◌∷◌, length, None, nat_le, nat_lt, get_or, refl, arith}
 use Rattle.std.specs.List.{AllByRecursion}
 use Rattle.std.proofs.lemmas.Bool.Decides.{nat_tests}
 use Rattle.xv_base.specs.Units.{Shape, blocks, block_size}
 use Rattle.xv_text.specs.Fields.{IsPattern}
-use Rattle.xv_trace.specs.declared.op.Op.{Op}
 use Rattle.xv_trace.specs.declared.op.Op.TheVariants.{Store, Load, Write, Fetch}
 use Rattle.xv_trace.specs.Operations.{memory_fault, op_fault, op_count, no_op}
-use Rattle.xv_trace.specs.OpText.{CanBeSaid, IsGoodOp}
+use Rattle.xv_trace.specs.OpText.{IsGoodOp}
 use Rattle.xv_job.specs.Made.{made_shape, byte_of, address, turn, made_op}
 use Rattle.xv_job.proofs.Lists.{all_at}
 

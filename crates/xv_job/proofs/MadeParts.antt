@@ -1,5 +1,5 @@
 -- The lists of a made job, one more at a time, and the whole.
-use Rattle.std.proofs.Common.{◌≡◌, ℕ, ◌+◌, ◌*◌, List, [], ◌∷◌, ◌++◌, map, sym, ap, ◌∙◌, subst, arith, append_assoc}
+use Rattle.std.proofs.Common.{◌≡◌, ℕ, ◌+◌, ◌*◌, ◌<◌, List, [], ◌∷◌, ◌++◌, map, sym, ap, ◌∙◌, subst, arith, append_assoc}
 use Rattle.std.specs.List.{range_with_len}
 use Rattle.std.proofs.lemmas.List.{map-append}
 use Rattle.std.proofs.lemmas.List.FromFn.{map-range_with_len_more}
@@ -8,13 +8,14 @@ use Rattle.xv_base.specs.declared.limits.Fault.{Fault}
 use Rattle.xv_base.specs.declared.pattern.Init.{Init}
 use Rattle.xv_base.specs.Units.{Shape}
 use Rattle.xv_trace.specs.declared.op.Op.{Op}
-use Rattle.xv_trace.specs.OpText.{Program}
+use Rattle.xv_trace.specs.OpText.{Program, IsGoodOp}
 use Rattle.xv_job.specs.Written.{Written, AreTraces, written_of, ops_held, job_of}
 use Rattle.xv_model.specs.Job.{operation_count}
 use Rattle.xv_job.specs.Made.{made_shape, made_config, made_init, made_op, made_job, byte_of, content, contents, first_ops, guest_ops, ops_each}
 use Rattle.xv_job.proofs.Legal.{traces_counted}
 use Rattle.xv_job.proofs.Lists.{all_push}
 use Rattle.xv_job.proofs.MadeCount.{made_count}
+use Rattle.xv_job.proofs.MadeOps.{op_good}
 
 -- one first content more
 pub contents_more : (n first step j : ℕ) (before now next : List Init) (pattern : List ℕ) → now ≡ before ++ contents n first step j → pattern ≡ byte_of (n + j) → next ≡ now ++ record { unit = record { 0 = first + step * j }; pattern = pattern } ∷ [] → next ≡ before ++ contents n first step (j + 1)
@@ -25,7 +26,12 @@ contents_more n first step j before now next pattern e p more =
     ∙ ap (λ (bytes : List ℕ). before ++ (contents n first step j ++ record { unit = record { 0 = first + step * j }; pattern = bytes } ∷ [])) p
     ∙ ap (λ (is : List Init). before ++ is) (sym (map-range_with_len_more (content n first step) 0 j j (omega arith)))
 
--- one operation more
+-- one operation more, which may act
+pub op_acts : (n g i : ℕ) (s : Shape) (now : Program) (op : Op) → now ≡ record { shape = s; ops = first_ops n g i } → s ≡ made_shape → op ≡ made_op n g i → g < 4 → IsGoodOp now.shape op
+op_acts n g i s now op e m o h =
+    let shape : now.shape ≡ made_shape = ap (λ (p : Program). p.shape) e ∙ m in
+    rw (shape, o) (op_good n g i h)
+
 pub ops_more : (n g i : ℕ) (s : Shape) (now next : Program) (op : Op) → now ≡ record { shape = s; ops = first_ops n g i } → op ≡ made_op n g i → next ≡ record now { ops = now.ops ++ op ∷ [] } → next ≡ record { shape = s; ops = first_ops n g (i + 1) }
 ops_more n g i s now next op e o more =
     let P : List Op → Program = λ (os : List Op). record { shape = s; ops = os } in

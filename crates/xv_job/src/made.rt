@@ -1,10 +1,8 @@
 //! A large job from a number.
 
-ghost use Rattle.std.specs.Prelude.{◌≡◌, ◌≤◌, ◌<◌, ◌++◌, length, map, IfOk, OnOk};
+ghost use Rattle.std.specs.Prelude.{◌≡◌, ◌+◌, ◌%◌, ◌≤◌, ◌<◌, ◌++◌, map, IfOk, OnOk};
 ghost use Rattle.std.specs.List.{range_with_len};
-ghost use Rattle.xv_base.specs.Layout.{IsGood};
-ghost use Rattle.xv_trace.specs.Operations.{op_count};
-ghost use Rattle.xv_trace.specs.OpText.{IsGoodOp};
+ghost use Rattle.xv_trace.specs.declared.op.Op.TheVariants.{Write, Fetch};
 ghost use Rattle.xv_model.specs.Job.{operation_count};
 ghost use Rattle.xv_job.specs.Written.{AreTraces, ops_held, job_of};
 ghost use Rattle.xv_job.specs.Made.{made_shape, made_config, made_init, made_op, made_job, byte_of, contents, address, first_ops, guest_ops, ops_each};
@@ -173,9 +171,7 @@ fn trace(
 fn operation(number: u16, guest: u8, index: u32) -> Op
     requires guest { guest < 4 }
     requires index { index < 800 }
-    ensures is { result ≡ made_op number guest index }
-    ensures good { IsGoodOp made_shape result }
-    ensures few { op_count result ≤ 4 }
+    ensures { result ≡ made_op number guest index }
 {
     let guest = u32::from(guest);
     let key = u32::from(number) + 31 * index + 7 * guest;
@@ -185,34 +181,38 @@ fn operation(number: u16, guest: u8, index: u32) -> Op
             len: 64,
             pat: byte_of(key),
         },
-        1 => Op::Write {
-            disk: 0,
-            block: 1024 * guest + key % 1020,
-            count: 1 + key % 4,
-            pat: byte_of(key),
-        },
+        1 => write(0, 1024 * guest + key % 1020, key),
         2 | 6 => Op::Load {
             addr: address(guest, key),
             len: 64,
         },
-        3 => Op::Fetch {
-            disk: 0,
-            block: 1024 * guest + key % 1024,
-            offset: 0,
-            len: 64,
-        },
-        5 => Op::Write {
-            disk: 1,
-            block: 512 * guest + key % 508,
-            count: 1 + key % 4,
-            pat: byte_of(key),
-        },
-        _ => Op::Fetch {
-            disk: 1,
-            block: 512 * guest + key % 512,
-            offset: 448,
-            len: 64,
-        },
+        3 => fetch(0, 1024 * guest + key % 1024, 0),
+        5 => write(1, 512 * guest + key % 508, key),
+        _ => fetch(1, 512 * guest + key % 512, 448),
+    }
+}
+
+/// The write of one to four blocks from `block` on.
+fn write(disk: u8, block: u32, key: u32) -> Op
+    ensures { result ≡ Write disk block (1 + key % 4) (byte_of key) }
+{
+    Op::Write {
+        disk,
+        block,
+        count: 1 + key % 4,
+        pat: byte_of(key),
+    }
+}
+
+/// The read of 64 bytes from an offset in a block.
+fn fetch(disk: u8, block: u32, offset: u32) -> Op
+    ensures { result ≡ Fetch disk block offset 64 }
+{
+    Op::Fetch {
+        disk,
+        block,
+        offset,
+        len: 64,
     }
 }
 

@@ -20,6 +20,7 @@ use Rattle.xv_parts.specs.Memory.{IsInMemory}
 use Rattle.xv_parts.specs.Sides.{sources, dests}
 use Rattle.xv_parts.proofs.Reading.{holds}
 
+-- what is told is some, and a number that rose from none is what it rose by
 some-of : (o : Option (List (List ℕ))) → is_some o ≡ true → o ≡ Some (unwrap_or o [])
 some-of None h = absurd (cc)
 some-of (Some x) h = refl

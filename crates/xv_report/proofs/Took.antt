@@ -1,6 +1,7 @@
 -- How what several writes take adds up to a text.
 use Rattle.std.proofs.Common.{◌≡◌, ℕ, zero, suc, ◌+◌, ◌-◌, ◌<◌, ◌≤◌, List, [], ◌∷◌, ◌++◌, length, take, drop, decimal, get_or, Option, None, Some, option_map, refl, sym, ap, ◌∙◌, subst, arith, append_assoc, append-nil, length-append, zero-add, add-zero}
-use Rattle.std.proofs.lemmas.List.{take-append-le, take-append-drop}
+use Rattle.std.proofs.lemmas.List.{take-append-le, take-append-drop, take_more}
+use Rattle.std.proofs.lemmas.Grind.{flat_map-append}
 use Rattle.std.proofs.Math.Seq.{take-add}
 use Rattle.xv_report.specs.Texts.{full_line, unit_line, side_text}
 use Rattle.xv_base.specs.Hex.{hex}
@@ -123,3 +124,23 @@ line_of side contents unit = unit_line side unit (get_or contents unit [])
 pub side-front : (a b : Option (List ℕ)) (side : List ℕ) (contents : List (List ℕ)) (n : ℕ) → n ≡ length contents → TookMore a b (flat_map (line_of side contents) (range_with_len 0 n)) → TookFront a b (side_text side contents)
 side-front a b side contents n e p =
     subst (λ (k : ℕ). TookFront a b (flat_map (line_of side contents) (range_with_len 0 k))) e (front-whole a b (flat_map (line_of side contents) (range_with_len 0 n)) p)
+
+-- the rows of the items up to a place, and one row more
+rows_next : {A : Type 0} (f : A → List ℕ) (xs : List A) (n : ℕ) (d : A) → n < length xs → flat_map f (take (n + 1) xs) ≡ flat_map f (take n xs) ++ f (get_or xs n d)
+rows_next f xs n d h =
+    ap (flat_map f) (take_more xs n d h) ∙ flat_map-append f (take n xs) (get_or xs n d ∷ [])
+    ∙ ap (λ (r : List ℕ). flat_map f (take n xs) ++ r) (append-nil (f (get_or xs n d)))
+
+rows_rest : {A : Type 0} (f : A → List ℕ) (xs : List A) (n : ℕ) (d : A) → n < length xs → flat_map f xs ≡ flat_map f (take n xs) ++ (f (get_or xs n d) ++ flat_map f (drop (n + 1) xs))
+rows_rest f xs n d h =
+    ap (flat_map f) (sym (take-append-drop (n + 1) xs)) ∙ flat_map-append f (take (n + 1) xs) (drop (n + 1) xs)
+    ∙ ap (λ (r : List ℕ). r ++ flat_map f (drop (n + 1) xs)) (rows_next f xs n d h)
+    ∙ append_assoc (flat_map f (take n xs)) (f (get_or xs n d)) (flat_map f (drop (n + 1) xs))
+
+pub rows-took : {A : Type 0} (f : A → List ℕ) (xs : List A) (a b c : Option (List ℕ)) (n : ℕ) (d : A) → n < length xs → TookMore a b (flat_map f (take n xs)) → TookMore b c (f (get_or xs n d)) → TookMore a c (flat_map f (take (n + 1) xs))
+rows-took f xs a b c n d h p q =
+    subst (λ (t : List ℕ). TookMore a c t) (sym (rows_next f xs n d h)) (took-both a b c (flat_map f (take n xs)) (f (get_or xs n d)) p q)
+
+pub rows-front : {A : Type 0} (f : A → List ℕ) (xs : List A) (a b c : Option (List ℕ)) (n : ℕ) (d : A) → n < length xs → TookMore a b (flat_map f (take n xs)) → TookFront b c (f (get_or xs n d)) → TookFront a c (flat_map f xs)
+rows-front f xs a b c n d h p q =
+    front-then a b c (flat_map f (take n xs)) (f (get_or xs n d)) (flat_map f xs) p q (flat_map f (drop (n + 1) xs)) (rows_rest f xs n d h)

@@ -5,6 +5,8 @@ use Rattle.xv_base.specs.declared.event.Phase.{Phase}
 use Rattle.xv_base.specs.declared.event.Phase.TheVariants.{Running, Stunned, Switched, Cancelled, Failed}
 use Rattle.xv_base.specs.declared.event.Totals.{Totals}
 use Rattle.xv_base.specs.Hex.{hex}
+use Rattle.xv_report.specs.declared.counts.Count.{Count}
+use Rattle.xv_report.specs.Workers.{Tally, worker_name}
 
 abbrev pub phase_word : Phase → List ℕ
 phase_word Running = codes "running"
@@ -49,8 +51,21 @@ work_rows t =
     ++ row (codes "applied") (decimal t.applied)
     ++ row (codes "credit") (decimal t.credit)
 
-abbrev pub report_text : Totals → List ℕ
-report_text t = state_rows t ++ work_rows t
+-- how many entries of the journal a worker made
+abbrev pub worker_row : Count → List ℕ
+worker_row c = row (codes "worker " ++ worker_name c.worker) (decimal c.steps)
+
+-- a line for each worker, and a last one
+abbrev pub tally_rows : Tally → List ℕ
+tally_rows t = flat_map worker_row t.workers ++ row (codes "finish") (decimal t.finish)
+
+-- these lines, where there are counts
+abbrev pub counts_rows : Option Tally → List ℕ
+counts_rows None = []
+counts_rows (Some t) = tally_rows t
+
+abbrev pub report_text : Totals → Option Tally → List ℕ
+report_text t counts = state_rows t ++ work_rows t ++ counts_rows counts
 
 -- whether all bytes are zero
 abbrev pub is_zero : List ℕ → Bool

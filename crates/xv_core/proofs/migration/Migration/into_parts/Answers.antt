@@ -1,4 +1,4 @@
-use Rattle.std.proofs.Common.{◌∙◌, List, map, ap}
+use Rattle.std.proofs.Common.{◌∙◌, map, ap}
 use Rattle.xv_core.specs.Seen.{Seen, OnWire}
 use Rattle.xv_core.proofs.Told.{told-wires}
 use Rattle.xv_core.proofs.migration.Migration.into_parts.Goals as goal

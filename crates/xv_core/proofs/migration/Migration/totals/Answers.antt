@@ -1,4 +1,4 @@
-use Rattle.std.proofs.Common.{◌∙◌, ◌-◌, List, ℕ, length, drop, sym, ap, arith}
+use Rattle.std.proofs.Common.{◌∙◌, ◌-◌, ℕ, length, drop, sym, ap, arith}
 use Rattle.std.specs.Prelude.{sum, count_by, nat_lt}
 use Rattle.xv_base.specs.Units.{Shape, units}
 use Rattle.xv_core.proofs.Told.{count-le-sum, totals-told}
