@@ -1,5 +1,5 @@
 -- The report and the image of a migration in memory are those that its journal says.
-use Rattle.std.proofs.Common.{◌≡◌, ℕ, List, ◌++◌, length, sym, ap, ◌∙◌, subst, Option, Some}
+use Rattle.std.proofs.Common.{◌≡◌, ℕ, List, ◌++◌, length, sym, ap, ◌∙◌, subst, Option, Some, None}
 use Rattle.xv_base.specs.declared.event.Totals.{Totals}
 use Rattle.xv_device.specs.Memory.{Device, told}
 use Rattle.xv_device.specs.Told.{Told}
@@ -21,16 +21,16 @@ contents-of d t contents is tells =
     cc
 
 -- it begins with the report
-pub report-is : (m : Seen) (t : Totals) → t ≡ totals (job_of m.job) (view_of m) (length m.journal) → result_text (job_of m.job) m.journal ≡ report_text t ++ image_text (sources (job_of m.job) (view_of m)) (dests (job_of m.job) (view_of m))
-report-is m t of_totals = sym (ap (λ (u : Totals). report_text u ++ image_text (sources (job_of m.job) (view_of m)) (dests (job_of m.job) (view_of m))) of_totals)
+pub report-is : (m : Seen) (t : Totals) → t ≡ totals (job_of m.job) (view_of m) (length m.journal) → result_text (job_of m.job) m.journal ≡ report_text t None ++ image_text (sources (job_of m.job) (view_of m)) (dests (job_of m.job) (view_of m))
+report-is m t of_totals = sym (ap (λ (u : Totals). report_text u None ++ image_text (sources (job_of m.job) (view_of m)) (dests (job_of m.job) (view_of m))) of_totals)
 
-pub result-is : (m : Seen) (t : Totals) (s d : Device) → IsInMemory m → t ≡ totals (job_of m.job) (view_of m) (length m.journal) → told s ≡ m.source.told → told d ≡ m.dest.told → result_text (job_of m.job) m.journal ≡ report_text t ++ image_text s.contents d.contents
+pub result-is : (m : Seen) (t : Totals) (s d : Device) → IsInMemory m → t ≡ totals (job_of m.job) (view_of m) (length m.journal) → told s ≡ m.source.told → told d ≡ m.dest.told → result_text (job_of m.job) m.journal ≡ report_text t None ++ image_text s.contents d.contents
 result-is m t s d inside of_totals of_source of_dest =
     let left = contents-of s m.source.told (sources (job_of m.job) (view_of m)) of_source (source-holds m inside) in
     let right = contents-of d m.dest.told (dests (job_of m.job) (view_of m)) of_dest (dest-holds m inside) in
     report-is m t of_totals
-    ∙ sym (ap (λ (xs : List (List ℕ)). report_text t ++ image_text xs d.contents) left
-    ∙ ap (λ (ys : List (List ℕ)). report_text t ++ image_text (sources (job_of m.job) (view_of m)) ys) right)
+    ∙ sym (ap (λ (xs : List (List ℕ)). report_text t None ++ image_text xs d.contents) left
+    ∙ ap (λ (ys : List (List ℕ)). report_text t None ++ image_text (sources (job_of m.job) (view_of m)) ys) right)
 
 -- two pieces were taken one after the other, and what was taken stays over a flush
 pub written : (a b c d : Option (List ℕ)) (xs ys text : List ℕ) → TookMore a b xs → TookMore b c ys → d ≡ c → text ≡ xs ++ ys → TookMore a d text

@@ -1,5 +1,5 @@
 -- What `replay` writes for what it reads.
-use Rattle.std.specs.Prelude.{ℕ, List, [], ◌∷◌, ◌++◌, length}
+use Rattle.std.specs.Prelude.{ℕ, List, [], ◌∷◌, ◌++◌, length, None}
 use Rattle.xv_model.specs.Job.{Job}
 use Rattle.xv_model.specs.Guest.{read_bytes}
 use Rattle.xv_model.specs.View.{View, first_view}
@@ -33,7 +33,7 @@ transcript job lines = transcript_from job (first_view job) [] lines
 
 -- the output: the transcript of the lines, and the report and the image of the journal that their events make
 abbrev pub result_text : Job → List Entry → List ℕ
-result_text job journal = report_text (totals job (run job journal) (length journal)) ++ image_text (sources job (run job journal)) (dests job (run job journal))
+result_text job journal = report_text (totals job (run job journal) (length journal)) None ++ image_text (sources job (run job journal)) (dests job (run job journal))
 
 abbrev pub output_text : Job → List Line → List ℕ
 output_text job lines = transcript job lines ++ result_text job (play job (events_of lines))

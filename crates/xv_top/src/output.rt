@@ -19,7 +19,7 @@ pub fn write_result<O: Sink>(machine: &Machine, output: &mut O) -> Result<(), Wr
     ensures front { TookFront (O.taken output.old) (O.taken output.new) (result_text (job_of machine.now.job) machine.now.journal) }
     ensures fault { OnErr result (CountRose (O.faults output.old) (O.faults output.new)) }
 {
-    write_report(&machine.totals(), output)?;
+    write_report(&machine.totals(), None, output)?;
     let layout = layout_of(machine.job());
     write_image(layout, machine.source(), machine.dest(), output)?;
     match output.flush() {
