@@ -9,6 +9,8 @@ mod finding;
 mod finishing;
 mod laws;
 mod order;
+#[cfg(test)]
+mod tests;
 
 pub use finding::next;
 pub use finishing::finish;
