@@ -5,3 +5,4 @@ pub mod Spelled
 pub mod Names
 pub mod Found
 pub mod Whole
+pub mod Digits

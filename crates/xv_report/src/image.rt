@@ -1,7 +1,7 @@
 //! The image of a migration: the bytes of both sides.
 
-ghost use Rattle.std.specs.Prelude.{◌≡◌, ◌≤◌, ◌+◌, ◌++◌, ◌∷◌, [], length, decimal, OnOk, OnErr};
-ghost use Rattle.xv_base.specs.Hex.{hex};
+ghost use Rattle.std.specs.Prelude.{◌≡◌, ◌<◌, ◌≤◌, ◌+◌, ◌*◌, ◌++◌, ◌∷◌, [], length, decimal, OnOk, OnErr};
+ghost use Rattle.xv_base.specs.Hex.{hex, hex_digit};
 ghost use Rattle.xv_base.specs.Units.{units};
 ghost use Rattle.xv_io.specs.Io.{CountRose, TookFront, TookMore};
 ghost use Rattle.xv_report.specs.Texts.{is_zero, full_line, unit_line, side_text, image_text};
@@ -11,7 +11,7 @@ use xv_device::MemDevice;
 use xv_io::{Sink, WriteFault, write_text};
 
 /// How many bytes of a unit are written at once.
-const PIECE: usize = 64;
+const PIECE: usize = 512;
 
 /// Writes a line for each unit whose bytes are not all zero, first those of the source and then those of the
 /// destination. Takes no memory.
@@ -83,10 +83,23 @@ fn write_hex<O: Sink>(bytes: &[u8], sink: &mut O) -> Result<(), WriteFault>
     let mut done = 0;
     while done < bytes.len() {
         let next = bytes.len().min(done + PIECE);
-        write_text(sink, digits(&bytes[done..next]).bytes())?;
+        write_piece(&bytes[done..next], &mut [0; 2 * PIECE], sink)?;
         done = next;
     }
     Ok(())
+}
+
+/// Writes the digits of the bytes, which fit into `room`.
+fn write_piece<O: Sink>(bytes: &[u8], room: &mut [u8], sink: &mut O) -> Result<(), WriteFault>
+    requires { 2 * length bytes.now ≤ length room.old }
+    ensures whole { OnOk result (TookMore (O.taken sink.old) (O.taken sink.new) (hex bytes.now)) }
+    ensures fault { OnErr result (CountRose (O.faults sink.old) (O.faults sink.new)) }
+    ensures front { TookFront (O.taken sink.old) (O.taken sink.new) (hex bytes.now) }
+    ensures counts { O.faults sink.old ≤ O.faults sink.new }
+{
+    let digits = &mut room[..2 * bytes.len()];
+    put_hex(bytes, digits);
+    write_text(sink, digits)
 }
 
 // What stands before a unit's bytes.
@@ -102,17 +115,32 @@ fn unit_head(side: &[u8], unit: u32) -> LineBuf
     line
 }
 
-fn digits(bytes: &[u8]) -> LineBuf
-    requires { length bytes.now ≤ 64 }
-    ensures { result ≡ hex bytes.now }
+/// Writes two digits a byte over `digits`. LLVM makes a few instructions a byte of this loop.
+fn put_hex(bytes: &[u8], digits: &mut [u8])
+    requires { length digits.old ≡ 2 * length bytes.now }
+    ensures { digits.new ≡ hex bytes.now }
 {
-    let mut line = LineBuf::new();
-    line.push_hex(bytes);
-    line
+    for i in 0..bytes.len() {
+        digits[2 * i] = hex_digit(bytes[i] / 16);
+        digits[2 * i + 1] = hex_digit(bytes[i] % 16);
+    }
 }
 
+/// The hexadecimal digit of a number below 16.
+fn hex_digit(n: u8) -> u8
+    requires { n < 16 }
+    ensures { result ≡ hex_digit n }
+{
+    if n < 10 { b'0' + n } else { b'a' - 10 + n }
+}
+
+/// Whether all bytes are zero. Reads every byte without a branch, so that LLVM tests many at once.
 fn is_zero(bytes: &[u8]) -> bool
     ensures { result ≡ is_zero bytes.now }
 {
-    bytes.iter().all(|byte| *byte == 0)
+    let mut zero = true;
+    for byte in bytes {
+        zero &= *byte == 0;
+    }
+    zero
 }
