@@ -6,3 +6,4 @@ pub mod Names
 pub mod Found
 pub mod Whole
 pub mod Digits
+pub mod Zeros

@@ -131,16 +131,17 @@ fn hex_digit(n: u8) -> u8
     requires { n < 16 }
     ensures { result ≡ hex_digit n }
 {
-    if n < 10 { b'0' + n } else { b'a' - 10 + n }
+    let to_letter = if n < 10 { 0 } else { b'a' - 10 - b'0' };
+    b'0' + n + to_letter
 }
 
-/// Whether all bytes are zero. Reads every byte without a branch, so that LLVM tests many at once.
+/// Whether all bytes are zero. Joins them without a branch, so that LLVM takes many at once.
 fn is_zero(bytes: &[u8]) -> bool
     ensures { result ≡ is_zero bytes.now }
 {
-    let mut zero = true;
+    let mut joined = 0;
     for byte in bytes {
-        zero &= *byte == 0;
+        joined |= *byte;
     }
-    zero
+    joined == 0
 }
