@@ -9,7 +9,7 @@ use Rattle.std.proofs.lemmas.List.Folds.{list_all_at}
 use Rattle.xv_base.specs.declared.event.Event.TheVariants.{Cancel}
 use Rattle.xv_model.specs.Job.{Job, IsGoodJob}
 use Rattle.xv_model.specs.View.{View}
-use Rattle.xv_model.specs.Wait.{Event, Why, wait, fits}
+use Rattle.xv_model.specs.Wait.{Event, wait, fits}
 use Rattle.xv_model.specs.Invariant.{IsViewOf}
 use Rattle.xv_model.specs.Work.{is_finished}
 use Rattle.xv_model.specs.Driver.{driver_events, first_able, from_place, next_event}
@@ -63,23 +63,23 @@ one_on events i end below within =
 able-cons : (job : Job) (v : View) (e : Event) (es : List Event) (b : Bool) → is_none (wait job v e false) ≡ b → first_able job v (e ∷ es) ≡ (if b then Some e else first_able job v es)
 able-cons job v e es b h = ap (λ (t : Bool). if t then Some e else first_able job v es) h
 
-pub able-here : (job : Job) (v : View) (i end : ℕ) (e : Event) (found : Option Event) → i < end → end ≤ length (driver_events job) → e ≡ get_or (driver_events job) i Cancel → is_none (wait job v e false) ≡ true →
+pub able-here : (job : Job) (v : View) (i end : ℕ) (e : Event) (found : Option Event) (can : Bool) → i < end → end ≤ length (driver_events job) → e ≡ get_or (driver_events job) i Cancel → can ≡ is_none (wait job v e false) → can ≡ true →
     found ≡ first_able job v (drop i (take end (driver_events job))) → Some e ≡ found
-able-here job v i end e found below within is acts so_far =
+able-here job v i end e found can below within is says acts so_far =
     let events = driver_events job in
     sym (
     so_far
     ∙ ap (first_able job v) (one_on events i end below within ∙ ap (λ (x : Event). x ∷ drop (i + 1) (take end events)) (sym is))
-    ∙ able-cons job v e (drop (i + 1) (take end events)) true acts
+    ∙ able-cons job v e (drop (i + 1) (take end events)) true (sym says ∙ acts)
     )
 
-pub able-behind : (job : Job) (v : View) (i end : ℕ) (e : Event) (found : Option Event) → i < end → end ≤ length (driver_events job) → e ≡ get_or (driver_events job) i Cancel → is_none (wait job v e false) ≡ false →
+pub able-behind : (job : Job) (v : View) (i end : ℕ) (e : Event) (found : Option Event) (can : Bool) → i < end → end ≤ length (driver_events job) → e ≡ get_or (driver_events job) i Cancel → can ≡ is_none (wait job v e false) → can ≡ false →
     found ≡ first_able job v (drop i (take end (driver_events job))) → found ≡ first_able job v (drop (i + 1) (take end (driver_events job)))
-able-behind job v i end e found below within is waits so_far =
+able-behind job v i end e found can below within is says waits so_far =
     let events = driver_events job in
     so_far
     ∙ ap (first_able job v) (one_on events i end below within ∙ ap (λ (x : Event). x ∷ drop (i + 1) (take end events)) (sym is))
-    ∙ able-cons job v e (drop (i + 1) (take end events)) false waits
+    ∙ able-cons job v e (drop (i + 1) (take end events)) false (sym says ∙ waits)
 
 -- the event at a number, of a job that is the same
 pub listed-of : (w u : Written) (i : ℕ) (e : Event) → u ≡ w → e ≡ get_or (driver_events (job_of u)) i Cancel → e ≡ get_or (driver_events (job_of w)) i Cancel

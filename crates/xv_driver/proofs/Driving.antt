@@ -1,16 +1,17 @@
 -- The driver's steps, one after another: what each leaves, and what all of them do.
-use Rattle.std.specs.Prelude.{◌≡◌, ◌≤◌, ◌<◌, ℕ, zero, suc, ◌+◌, ◌-◌, ◌*◌, ◌^◌, ◌||◌, nat_lt, Bool, true, false, List, [], ◌∷◌, ◌++◌, length, Option, Some, None, if◌then◌else◌}
-use Rattle.std.proofs.Common.{arith, refl, sym, ap, subst, ◌∙◌, append_assoc, append-nil, length-append, add-one}
+use Rattle.std.specs.Prelude.{◌≡◌, ◌≤◌, ◌<◌, ℕ, zero, suc, ◌+◌, ◌-◌, ◌^◌, ◌||◌, nat_lt, Bool, true, false, List, [], ◌∷◌, ◌++◌, length, Some, None, if◌then◌else◌}
+use Rattle.std.proofs.Common.{arith, refl, sym, ap, subst, ◌∙◌, append_assoc, append-nil, length-append, add-one, take}
+use Rattle.std.proofs.Math.Seq.{take-append_seam}
 use Rattle.std.proofs.lemmas.Bool.{or_parts, ltb-false, le-ltb}
 use Rattle.xv_base.proofs.Within.{good_within}
-use Rattle.xv_model.specs.Job.{Job, IsGoodJob, unit_count, operation_count}
+use Rattle.xv_model.specs.Job.{Job, IsGoodJob}
 use Rattle.xv_model.specs.View.{View, number, is_switched}
 use Rattle.xv_model.specs.Wait.{Event, wait, fits}
 use Rattle.xv_model.specs.Effect.{Turn}
 use Rattle.xv_model.specs.Step.{Entry, step, turn, run, is_flagged, is_wait, entry_of}
 use Rattle.xv_model.specs.Driver.{next_event}
 use Rattle.xv_model.specs.Report.{is_written}
-use Rattle.xv_model.specs.Work.{bound, work_left}
+use Rattle.xv_model.specs.Work.{bound}
 use Rattle.xv_model.proofs.OneMore.{run-one}
 use Rattle.xv_model.proofs.Bound.Runs.{step-lowers, run-within}
 use Rattle.xv_model.proofs.Contents.Unwritten.{none-before, not_switched-before}
@@ -60,21 +61,24 @@ step-nears m n e a k fit acts s =
     apart : (b c j i : ℕ) → b ≡ c → j ≡ i + 1 → i + 1 ≤ c → b - j < c - i
     apart b c j i same grew room = omega arith
 
--- the bound, and so the journal of every migration, is small
-pub bound-small : (job : Job) → IsGoodJob job → bound job < 2 ^ 32
+-- the journal of every migration is within the bound, which is small
+pub journal-within : (m : Seen) → IsKept m → length m.journal ≤ bound (job_of m.job)
+journal-within m k = omega (arith, run-within (job_of m.job) m.journal k.good k.fitting k.is_run)
+
+bound-small : (job : Job) → IsGoodJob job → bound job < 2 ^ 32
 bound-small job good =
     let units = (good_within job.shape good.machine).few_units in
     omega (arith, units, good.operations)
 
 pub journal-small : (m : Seen) → IsKept m → length m.journal < 2 ^ 32
-journal-small m k = omega (arith, run-within (job_of m.job) m.journal k.good k.fitting k.is_run, bound-small (job_of m.job) k.good)
+journal-small m k = omega (arith, journal-within m k, bound-small (job_of m.job) k.good)
 
 -- a step by the driver's next event is a step of the driver
-pub step-driven : (m n : Seen) (e : Event) (a : Turn) → next_event (job_of m.job) (view_of m) (length m.journal) ≡ Some e → fits (job_of m.job) e ≡ true → wait (job_of m.job) (view_of m) e false ≡ None → IsStep m e a n → IsKept n → IsDrivenStep m n
+pub step-driven : (m n : Seen) (e : Event) (a : Turn) → Some e ≡ next_event (job_of m.job) (view_of m) (length m.journal) → fits (job_of m.job) e ≡ true → wait (job_of m.job) (view_of m) e false ≡ None → IsStep m e a n → IsKept n → IsDrivenStep m n
 step-driven m n e a next fit acts s k = record {
   event = e;
   answer = a;
-  next = next;
+  next = sym next;
   fitting = fit;
   stepped = s;
   goes_on = goes-on (job_of m.job) (view_of m) e a acts s.answers;
@@ -107,6 +111,11 @@ driven-journal (suc k) m n h =
     let d = h.1.0 in
     let later = driven-journal k h.0 n h.1.1 in
     (entry d.event d.answer ∷ later.0, later.1 ∙ ap (λ (es : List Entry). es ++ later.0) (step-journal m h.0 d) ∙ append_assoc m.journal (entry d.event d.answer ∷ []) later.0)
+
+pub driven-before : (k : ℕ) (m n : Seen) → AreDriven k m n → take (length m.journal) n.journal ≡ m.journal
+driven-before k m n h =
+    let later = driven-journal k m n h in
+    ap (λ (es : List Entry). take (length m.journal) es) later.1 ∙ take-append_seam m.journal later.0
 
 -- all that is counted rises by the calls of all steps
 pub driven-rises : (k : ℕ) (m n : Seen) → AreDriven k m n → Rises m n
@@ -144,8 +153,14 @@ driven-unwritten (suc k) m n h = record {
 
 -- the devices tell on
 pub driven-tells : (k : ℕ) (m n : Seen) → AreDriven k m n → TellsOn m n
-driven-tells zero m n h = subst (TellsOn m) (sym h) (record { source = refl; dest = refl })
+driven-tells zero m n h = subst (TellsOn m) (sym h) (record { source = refl; dest = refl; source_units = refl; dest_units = refl; wires = refl })
 driven-tells (suc k) m n h =
     let later = driven-tells k h.0 n h.1.1 in
     let first = h.1.0.stepped.tells in
-    record { source = later.source ∙ first.source; dest = later.dest ∙ first.dest }
+    record {
+      source = later.source ∙ first.source;
+      dest = later.dest ∙ first.dest;
+      source_units = later.source_units ∙ first.source_units;
+      dest_units = later.dest_units ∙ first.dest_units;
+      wires = later.wires ∙ first.wires;
+    }

@@ -1,18 +1,18 @@
 -- The journal of a run that the driver made, where its calls fail as planned, is the driven run of its job.
-use Rattle.std.specs.Prelude.{◌≡◌, ◌≤◌, ℕ, zero, suc, ◌+◌, ◌&&◌, not, Bool, true, false, List, [], ◌∷◌, ◌++◌, length, Option, Some, None, is_none, if◌then◌else◌}
-use Rattle.std.proofs.Common.{arith, refl, sym, ap, subst, ◌∙◌, append_assoc, append-nil, length-append}
+use Rattle.std.specs.Prelude.{◌≡◌, ◌≤◌, ℕ, zero, suc, ◌+◌, ◌&&◌, Bool, true, false, List, [], ◌∷◌, ◌++◌, length, Option, Some, None, is_none, if◌then◌else◌}
+use Rattle.std.proofs.Common.{arith, refl, sym, ap, ◌∙◌, append_assoc, append-nil, length-append}
 use Rattle.std.proofs.lemmas.Bool.{and_parts}
 use Rattle.xv_model.specs.Job.{Job}
 use Rattle.xv_model.specs.View.{View, first_view}
 use Rattle.xv_model.specs.Wait.{Event, Why, wait}
 use Rattle.xv_model.specs.Effect.{Turn}
 use Rattle.xv_model.specs.Step.{Entry, Call, step, turn, run, call, calls, is_flagged, same_truth, is_planned, is_faithful_from, is_faithful, flag, flag_by}
-use Rattle.xv_model.specs.Driver.{first_able, from_place, driver_events, next_event, driven_view, driven_call, driven_entry, driven_from, driven}
+use Rattle.xv_model.specs.Driver.{first_able, next_event, driven_view, driven_call, driven_entry, driven_from, driven}
 use Rattle.xv_model.specs.Work.{is_finished, bound}
 use Rattle.xv_model.proofs.OneMore.{run-one, calls-one, is_faithful-one}
 use Rattle.xv_model.proofs.Finished.{driver_none}
 use Rattle.xv_model.proofs.Bound.Runs.{run-within}
-use Rattle.xv_job.specs.Written.{Written, job_of}
+use Rattle.xv_job.specs.Written.{job_of}
 use Rattle.xv_core.specs.Seen.{Seen, view_of}
 use Rattle.xv_core.specs.Keeping.{IsKept}
 use Rattle.xv_driver.specs.Driven.{IsDrivenStep, AreDriven}

@@ -1,14 +1,13 @@
 -- What the driver steps does not wait, whether its call fails or not.
-use Rattle.std.specs.Prelude.{◌≡◌, ℕ, ◌==◌, not, Bool, true, false, List, Option, Some, None, is_some, is_none, if◌then◌else◌, take}
-use Rattle.std.proofs.Common.{refl, ap, sym, ◌∙◌}
+use Rattle.std.specs.Prelude.{◌≡◌, ◌==◌, not, Bool, true, false, Option, Some, None, if◌then◌else◌}
+use Rattle.std.proofs.Common.{refl, ap, ◌∙◌}
 use Rattle.xv_base.specs.declared.event.Event.TheVariants.{Guest, Begin, Read, Advance, Release, Round, Page, Send, Deliver, Apply, Ack, Credit, Stun, Switch, Cancel}
 use Rattle.xv_base.specs.declared.answer.Why.TheVariants.{NotNow, NothingThere}
 use Rattle.xv_base.specs.declared.answer.Turn.TheVariants.{Queued}
-use Rattle.xv_model.specs.Job.{Job, UnitOp}
-use Rattle.xv_model.specs.View.{View, UnitHead, is_live, is_empty, stream}
-use Rattle.xv_model.specs.Wait.{Event, Why, Aim, wait, unless, is_join, next_operation, next_aim}
-use Rattle.xv_model.specs.Effect.{Turn, note, answer, fault_answer, guest_answer, group_note, batch}
-use Rattle.xv_model.specs.View.{front_group}
+use Rattle.xv_model.specs.Job.{Job}
+use Rattle.xv_model.specs.View.{View, is_live, is_empty, stream}
+use Rattle.xv_model.specs.Wait.{Event, Why, wait, unless, is_join, next_aim}
+use Rattle.xv_model.specs.Effect.{Turn, answer, fault_answer}
 use Rattle.xv_model.specs.Step.{turn, turn_by, breaks, is_wait, is_flagged}
 use Rattle.xv_model.proofs.GoesOn.{unless-none}
 

@@ -2,8 +2,8 @@
 use Rattle.std.specs.Prelude.{◌≡◌, ◌≤◌, ◌<◌, ℕ, zero, suc, ◌+◌, ◌-◌, ◌*◌, ◌/◌, ◌%◌, List, [], ◌∷◌, ◌++◌, length, get_or}
 use Rattle.std.proofs.Common.{arith, refl, sym, ap, ◌∙◌, inl, inr, append_assoc, length-append}
 use Rattle.std.proofs.lemmas.Bool.{cases_lt}
-use Rattle.std.proofs.lemmas.List.{get_or_append_left, get_or-append_right, get_or-append-add}
-use Rattle.xv_base.specs.declared.event.Event.TheVariants.{Guest, Begin, Read, Advance, Release, Round, Page, Send, Deliver, Apply, Ack, Credit, Stun, Switch, Cancel}
+use Rattle.std.proofs.lemmas.List.{get_or_append_left, get_or-append_right}
+use Rattle.xv_base.specs.declared.event.Event.TheVariants.{Guest, Send, Deliver, Cancel}
 use Rattle.xv_model.specs.Job.{Job, guest_count}
 use Rattle.xv_model.specs.Wait.{Event}
 use Rattle.xv_model.specs.Driver.{for_each_below, driver_events}
@@ -167,7 +167,7 @@ length-listed job =
       length-later job.config.streams,
     )
 
-pub counted : (job : Job) (guests disks streams : ℕ) → guests ≡ guest_count job → disks ≡ length job.shape.disks → streams ≡ job.config.streams → guests + 4 * disks + 2 * streams + 8 ≡ length (driver_events job)
+pub counted : (job : Job) (guests disks streams : ℕ) → guests ≡ guest_count job → disks ≡ length job.shape.disks → streams ≡ job.config.streams → guests + 4 * disks + 2 + 2 * streams + 6 ≡ length (driver_events job)
 counted job guests disks streams same each all = omega (arith, length-listed job)
 
 pub is-within-later : (job : Job) (i guests disks streams : ℕ) → guests ≡ guest_count job → disks ≡ length job.shape.disks → streams ≡ job.config.streams → guests + 4 * disks ≤ i → i < length (driver_events job) → i - guests - 4 * disks < length (later_events streams)

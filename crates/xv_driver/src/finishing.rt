@@ -1,7 +1,7 @@
 //! A whole run by the driver.
 
-ghost use Rattle.std.specs.Prelude.{◌≡◌, ◌+◌, true, length};
-ghost use Rattle.xv_model.specs.Work.{is_finished};
+ghost use Rattle.std.specs.Prelude.{◌≡◌, ◌≤◌, ◌+◌, true, length, take};
+ghost use Rattle.xv_model.specs.Work.{bound, is_finished};
 ghost use Rattle.xv_job.specs.Written.{job_of};
 ghost use Rattle.xv_core.specs.Seen.{view_of};
 ghost use Rattle.xv_core.specs.Keeping.{IsKept};
@@ -18,6 +18,8 @@ use xv_wire::Wire;
 pub fn finish<S: UnitDevice, T: UnitDevice, W: Wire>(migration: &mut Migration<S, T, W>) -> u64
     ensures finished { is_finished (job_of migration.new.job) (view_of migration.new) ≡ true }
     ensures grew { length migration.new.journal ≡ length migration.old.journal + result }
+    ensures within { length migration.new.journal ≤ bound (job_of migration.new.job) }
+    ensures before { take (length migration.old.journal) migration.new.journal ≡ migration.old.journal }
     ensures driven { AreDriven result migration.old migration.new }
     ensures job { migration.new.job ≡ migration.old.job }
     ensures rises { Rises migration.old migration.new }

@@ -9,7 +9,9 @@ mod finding;
 mod finishing;
 mod laws;
 mod order;
+#[cfg(test)]
+mod tests;
 
 pub use finding::next;
 pub use finishing::finish;
-pub use laws::finished_runs_are_driven;
+pub use laws::{driven_without_faults_switches, finished_runs_are_driven};

@@ -10,12 +10,17 @@ ghost use Rattle.xv_driver.specs.Order.{copy_events, round_events, end_events, l
 use xv_base::{Event, GuestId};
 use xv_job::Job;
 
+/// How many events there are of the rounds, and of the destination and the ends.
+const ROUNDS: u8 = 2;
+
+const ENDS: u8 = 6;
+
 /// How many events the list has.
 pub(crate) fn event_count(job: &Job) -> u8
     ensures exactly { result ≡ length (driver_events (job_of job.now)) }
     ensures some { 0 < result }
 {
-    guests(job) + 4 * job.layout.disks() + 2 * job.config.streams + 8
+    guests(job) + 4 * job.layout.disks() + ROUNDS + 2 * job.config.streams + ENDS
 }
 
 /// The event of a number: the guests, each disk's copy, the rounds, the streams, the destination, and the ends.
@@ -39,6 +44,7 @@ fn guests(job: &Job) -> u8
     ensures exactly { result ≡ guest_count (job_of job.now) }
     ensures few { result ≤ 16 }
 {
+    // That there are few is told with their operations.
     let _ = job.operations();
     job.traces.len() as u8
 }
@@ -62,7 +68,7 @@ fn later_event(streams: u8, index: u8) -> Event
     requires within { index < length (later_events streams) }
     ensures { result ≡ get_or (later_events streams) index Cancel }
 {
-    let sends = 2;
+    let sends = ROUNDS;
     let deliveries = sends + streams;
     let ends = deliveries + streams;
     if index < sends {

@@ -1,4 +1,4 @@
-use Rattle.std.proofs.Common.{sym, ◌∙◌, arith}
+use Rattle.std.proofs.Common.{arith}
 use Rattle.std.specs.Prelude.{drop, take}
 use Rattle.xv_model.specs.Driver.{driver_events, first_able}
 use Rattle.xv_job.specs.Written.{job_of}
@@ -16,11 +16,11 @@ returns-then-can g c =
     let m = c.args.migration.now in
     let found = first_able (job_of m.job) (view_of m) (drop c.args.first (take c.args.end (driver_events (job_of m.job)))) in
     let is = listed-of c.args.migration.now.job c.job.result.now c.loop-index.index c.event_at-event.result c.job.ensures c.event_at-event.ensures in
-    able-here (job_of m.job) (view_of m) c.loop-index.index c.args.end c.event_at-event.result found c.loop-index-test.true c.requires is (sym c.can.ensures ∙ c.if-can.true) c.loop-index.invariant
+    able-here (job_of m.job) (view_of m) c.loop-index.index c.args.end c.event_at-event.result found c.can.result c.loop-index-test.true c.requires is c.can.ensures c.if-can.true c.loop-index.invariant
 
 pub loop-index-preserved : goal.loop-index-preserved
 loop-index-preserved g c =
     let m = c.args.migration.now in
     let found = first_able (job_of m.job) (view_of m) (drop c.args.first (take c.args.end (driver_events (job_of m.job)))) in
     let is = listed-of c.args.migration.now.job c.job.result.now c.loop-index.index c.event_at-event.result c.job.ensures c.event_at-event.ensures in
-    able-behind (job_of m.job) (view_of m) c.loop-index.index c.args.end c.event_at-event.result found c.loop-index-test.true c.requires is (sym c.can.ensures ∙ c.if-can.false) c.loop-index.invariant
+    able-behind (job_of m.job) (view_of m) c.loop-index.index c.args.end c.event_at-event.result found c.can.result c.loop-index-test.true c.requires is c.can.ensures c.if-can.false c.loop-index.invariant

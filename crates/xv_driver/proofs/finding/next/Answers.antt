@@ -1,4 +1,4 @@
-use Rattle.std.proofs.Common.{◌≡◌, ◌%◌, ℕ, List, length, Some, sym, ap, ◌∙◌}
+use Rattle.std.proofs.Common.{◌%◌, ℕ, List, length, Some, ap, ◌∙◌}
 use Rattle.xv_model.specs.Step.{Entry}
 use Rattle.xv_model.specs.Driver.{driver_events}
 use Rattle.xv_job.specs.Written.{Written, job_of}

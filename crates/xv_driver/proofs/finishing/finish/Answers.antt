@@ -1,6 +1,6 @@
-use Rattle.std.proofs.Common.{sym, ◌∙◌, arith}
+use Rattle.std.proofs.Common.{◌∙◌, arith}
 use Rattle.xv_core.specs.Keeping.{IsKept}
-use Rattle.xv_driver.proofs.Driving.{step-grows, step-nears, journal-small, step-driven, driven-more, driven-rises, driven-takes, driven-unwritten, driven-tells}
+use Rattle.xv_driver.proofs.Driving.{step-grows, step-nears, journal-within, journal-small, step-driven, driven-more, driven-before, driven-rises, driven-takes, driven-unwritten, driven-tells}
 use Rattle.xv_driver.proofs.finishing.finish.Goals as goal
 
 pub loop-event-preserved : goal.loop-event-preserved
@@ -11,7 +11,7 @@ loop-event-preserved g c =
     let next = c.in-Some.ensures in
     let so_far = c.loop-event.invariant in
     record {
-      driven = λ (kept : IsKept n). driven-more c.loop-event.grown c.args.migration.now m n (so_far.driven next.kept) (step-driven m n e c.step.result (sym next.event) next.fits next.can c.step.ensures kept);
+      driven = λ (kept : IsKept n). driven-more c.loop-event.grown c.args.migration.now m n (so_far.driven next.kept) (step-driven m n e c.step.result next.event next.fits next.can c.step.ensures kept);
       grew = omega (arith, so_far.grew, step-grows m n e c.step.result next.can c.step.ensures);
       job = c.step.ensures.job ∙ so_far.job;
     }
@@ -34,6 +34,8 @@ returns g c =
     record {
       finished = last.none;
       grew = c.loop-event.invariant.grew;
+      within = journal-within n last.kept;
+      before = driven-before k m n driven;
       driven = driven;
       job = c.loop-event.invariant.job;
       rises = driven-rises k m n driven;

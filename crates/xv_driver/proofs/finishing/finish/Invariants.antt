@@ -5,6 +5,7 @@ use Rattle.xv_core.specs.Keeping.{IsKept}
 use Rattle.xv_driver.specs.Driven.{AreDriven}
 use Rattle.xv_driver.proofs.finishing.finish.Given as goal
 
+-- so far the driver made the steps, once it is known that what every migration keeps holds after the last, which `next` tells
 abbrev pub invariant-loop-event : goal.invariant-loop-event
 invariant-loop-event g l = record {
   driven : IsKept l.migration → AreDriven l.grown l.initial.migration l.migration;

@@ -1,4 +1,4 @@
-use Rattle.std.proofs.Common.{◌≡◌, ap, ◌∙◌, length, arith}
+use Rattle.std.proofs.Common.{ap, ◌∙◌, length}
 use Rattle.xv_job.specs.Written.{Written, job_of}
 use Rattle.xv_driver.proofs.Listed.{is-guest, is-copy, is-later, is-within-later}
 use Rattle.xv_driver.proofs.order.event_at.Goals as goal
