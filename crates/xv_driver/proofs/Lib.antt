@@ -3,3 +3,4 @@ pub mod Able
 pub mod Goes
 pub mod Driving
 pub mod Following
+pub mod Switching

@@ -14,4 +14,4 @@ mod tests;
 
 pub use finding::next;
 pub use finishing::finish;
-pub use laws::finished_runs_are_driven;
+pub use laws::{driven_without_faults_switches, finished_runs_are_driven};
