@@ -19,12 +19,3 @@ mod refusal;
 
 pub use playing::replay_on;
 pub use program::{Left, top};
-
-#[cfg(test)]
-mod drive_tests;
-#[cfg(test)]
-mod handover_tests;
-#[cfg(test)]
-mod replay_tests;
-#[cfg(test)]
-mod tests;
