@@ -46,7 +46,9 @@ pub fn half_over(alloc: Global) -> Result<SourceHalf<MemDevice>, Fail>
 }
 
 /// The answer of an event that is done.
-pub fn done(a: u32, b: u32) -> Turn {
+pub fn done(a: u32, b: u32) -> Turn
+    ensures { result ≡ Turn.Done (record { a = a; b = b }) }
+{
     Turn::Done(Note { a, b })
 }
 
