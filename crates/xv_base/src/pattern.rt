@@ -84,6 +84,11 @@ fn repeat(bytes: &[u8], into: &mut [u8])
     requires { 0 < length bytes.now }
     ensures { into.new ≡ repeated bytes.now (length into.old) }
 {
+    if let [byte] = bytes {
+        // The commonest pattern by far, and much faster so.
+        into.fill(*byte);
+        return;
+    }
     let count = bytes.len();
     for (i, byte) in into.iter_mut().enumerate() {
         *byte = bytes[i % count];

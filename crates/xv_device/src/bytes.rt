@@ -1,10 +1,30 @@
-//! Parts of a list of bytes.
+//! Lists of bytes: zeros, and parts.
 
-ghost use Rattle.std.specs.Prelude.{◌≡◌, ◌+◌, ◌≤◌, length, take, drop};
+ghost use Rattle.std.specs.Prelude.{◌≡◌, ◌+◌, ◌≤◌, length, take, drop, replicate, IfOk};
 ghost use Rattle.xv_base.specs.Pattern.{repeated};
 ghost use Rattle.xv_device.specs.Device.{patched};
 
-use xv_base::Pattern;
+use std::alloc::Global;
+use xv_base::{NoMemory, Pattern};
+
+/// How many bytes are laid at once. Some C libraries fill longer runs by one instruction that repeats itself for each byte.
+const RUN: usize = 2048;
+
+/// As many zeros, laid in runs over memory that is taken at once.
+pub fn zeros(alloc: Global, count: usize) -> Result<Vec<u8>, NoMemory>
+    ensures { IfOk result (λ bytes. bytes.items ≡ replicate count 0) }
+{
+    let Ok(mut bytes) = Vec::with_capacity(alloc, count) else {
+        return Err(NoMemory);
+    };
+    while bytes.len() < count {
+        let run = (count - bytes.len()).min(RUN);
+        if bytes.resize(bytes.len() + run, 0).is_err() {
+            return Err(NoMemory);
+        }
+    }
+    Ok(bytes)
+}
 
 /// The bytes from `at` on, `count` of them.
 pub fn part(bytes: &[u8], at: usize, count: usize) -> &[u8]

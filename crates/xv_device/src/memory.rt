@@ -8,7 +8,7 @@ ghost use Rattle.xv_device.specs.Pieces.{pieces};
 ghost use Rattle.xv_device.specs.Memory.{no_init, first_contents, fresh, after, counted, told};
 ghost use Rattle.xv_device.specs.Told.{IsSized};
 
-use crate::bytes::{copy_in, copy_out, fill_in, part};
+use crate::bytes::{copy_in, copy_out, fill_in, part, zeros};
 use crate::device::UnitDevice;
 use crate::plan::{DevicePlan, Kind, one_more};
 use std::alloc::Global;
@@ -58,9 +58,7 @@ impl MemDevice {
         requires { (i : ℕ) → i < length init.now → (get_or init.now i no_init).unit.0 < units layout.now }
         ensures { IfOk result (λ device. device ≡ fresh layout.now init.now plan) }
     {
-        let Ok(mut bytes) = Vec::from_elem(alloc, 0, layout.bytes() as usize) else {
-            return Err(NoMemory);
-        };
+        let mut bytes = zeros(alloc, layout.bytes() as usize)?;
         let Ok(writes) = Vec::from_elem(alloc, 0, layout.units() as usize) else {
             return Err(NoMemory);
         };

@@ -1,4 +1,4 @@
-use Rattle.std.proofs.Common.{length, arith, ap, length-append, ◌∙◌, ◌∷◌, [], ◌++◌, List, ℕ}
+use Rattle.std.proofs.Common.{length, arith, ap, length-append, ◌∙◌, ◌∷◌, [], ◌++◌, ℕ}
 use Rattle.xv_base.proofs.Hexes.{length_behind, digits_behind}
 use Rattle.xv_base.proofs.text.LineBuf.push_hex.Goals as goal
 
