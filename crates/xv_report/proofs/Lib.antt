@@ -7,3 +7,4 @@ pub mod Found
 pub mod Whole
 pub mod Digits
 pub mod Zeros
+pub mod Lanes

@@ -1,11 +1,13 @@
 //! The image of a migration: the bytes of both sides.
 
-ghost use Rattle.std.specs.Prelude.{◌≡◌, ◌<◌, ◌≤◌, ◌+◌, ◌*◌, ◌++◌, ◌∷◌, [], length, decimal, OnOk, OnErr};
+ghost use Rattle.std.specs.Prelude.{◌≡◌, ◌<◌, ◌≤◌, ◌+◌, ◌*◌, ◌++◌, ◌∷◌, [], length, decimal, map, OnOk, OnErr};
+ghost use Rattle.std.specs.Simd.Lanes.{Each1};
 ghost use Rattle.xv_base.specs.Hex.{hex, hex_digit};
 ghost use Rattle.xv_base.specs.Units.{units};
 ghost use Rattle.xv_io.specs.Io.{CountRose, TookFront, TookMore};
 ghost use Rattle.xv_report.specs.Texts.{is_zero, full_line, unit_line, side_text, image_text};
 
+use std::simd::prelude::*;
 use xv_base::{Layout, LineBuf, UnitId};
 use xv_device::MemDevice;
 use xv_io::{Sink, WriteFault, write_text};
@@ -115,15 +117,48 @@ fn unit_head(side: &[u8], unit: u32) -> LineBuf
     line
 }
 
-/// Writes two digits a byte over `digits`. LLVM makes a few instructions a byte of this loop.
+/// Writes two digits a byte over `digits`, those of sixteen bytes at once.
 fn put_hex(bytes: &[u8], digits: &mut [u8])
     requires { length digits.old ≡ 2 * length bytes.now }
     ensures { digits.new ≡ hex bytes.now }
 {
-    for i in 0..bytes.len() {
+    let mut done = 0;
+    while bytes.len() - done >= 16 {
+        let lanes = digits_of(u8x16::from_slice(&bytes[done..]));
+        lanes.copy_to_slice(&mut digits[2 * done..]);
+        done += 16;
+    }
+    for i in done..bytes.len() {
         digits[2 * i] = hex_digit(bytes[i] / 16);
         digits[2 * i + 1] = hex_digit(bytes[i] % 16);
     }
+}
+
+/// The digits of sixteen bytes.
+#[inline(always)]
+fn digits_of(bytes: u8x16) -> u8x32
+    requires sixteen { length bytes ≡ 16 }
+    ensures { result ≡ hex bytes }
+{
+    let high = hex_digits(bytes >> u8x16::splat(4));
+    let low = hex_digits(bytes & u8x16::splat(15));
+    high.shuffle::<32>(
+        low,
+        [
+            0, 16, 1, 17, 2, 18, 3, 19, 4, 20, 5, 21, 6, 22, 7, 23, 8, 24, 9, 25, 10, 26, 11, 27,
+            12, 28, 13, 29, 14, 30, 15, 31,
+        ],
+    )
+}
+
+/// The hexadecimal digits of sixteen numbers below 16.
+#[inline(always)]
+fn hex_digits(numbers: u8x16) -> u8x16
+    requires sixteen { length numbers ≡ 16 }
+    requires small { Each1 (λ n. n < 16) numbers }
+    ensures { result ≡ map hex_digit numbers }
+{
+    u8x16::from_array(*b"0123456789abcdef").swizzle_dyn(numbers)
 }
 
 /// The hexadecimal digit of a number below 16.

@@ -13,7 +13,7 @@ mod word;
 
 pub use counts::Counts;
 pub use line::Line;
-pub use print::{print_probe, print_turn};
+pub use print::{print_probe, print_turn, push_turn};
 pub use read::read_events;
 pub use word::{Named, Word};
 

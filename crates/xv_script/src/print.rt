@@ -13,11 +13,21 @@ pub fn print_turn(event: Event, turn: Turn, read: &[u8]) -> LineBuf
     ensures { result ≡ turn_line event turn read.now }
 {
     let mut line = LineBuf::new();
-    push_event(&mut line, event);
-    line.push(b' ');
     push_turn(&mut line, event, turn, read);
-    line.push(b'\n');
     line
+}
+
+/// Appends the line of an event and its answer, as `print_turn` makes it, where there is room for 200 bytes. A caller
+/// that plays many events saves the copies of the line that a result costs.
+pub fn push_turn(line: &mut LineBuf, event: Event, turn: Turn, read: &[u8])
+    requires room { length line.old ≤ 56 }
+    requires short { length read.now ≤ 64 }
+    ensures { line.new ≡ line.old ++ turn_line event turn read.now }
+{
+    push_event(line, event);
+    line.push(b' ');
+    push_answer(line, event, turn, read);
+    line.push(b'\n');
 }
 
 /// The line of what is asked of a unit, with its line feed. Takes no memory.
@@ -75,7 +85,7 @@ fn push_event(line: &mut LineBuf, event: Event)
     }
 }
 
-fn push_turn(line: &mut LineBuf, event: Event, turn: Turn, read: &[u8])
+fn push_answer(line: &mut LineBuf, event: Event, turn: Turn, read: &[u8])
     requires room { length line.old ≤ 80 }
     requires short { length read.now ≤ 64 }
     ensures exactly { line.new ≡ line.old ++ turn_text event turn read.now }
