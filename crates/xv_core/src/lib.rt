@@ -25,8 +25,6 @@ mod starting;
 mod stepping;
 mod sums;
 mod telling;
-#[cfg(test)]
-mod tests;
 
 pub use migration::Migration;
 pub use starting::Parts;

@@ -8,6 +8,8 @@
 
 mod beginning;
 mod laws;
+#[cfg(test)]
+mod migration_tests;
 mod plans;
 #[cfg(test)]
 mod tests;

@@ -1,11 +1,15 @@
 //! That exactly the calls that a job's faults name fail.
 
+ghost use Rattle.std.specs.Prelude.{◌≡◌};
+ghost use Rattle.xv_model.specs.Wait.{fits};
+ghost use Rattle.xv_job.specs.Written.{job_of};
+
 use crate::{Machine, begin};
 use std::alloc::{AllocError, Global};
 use std::test::Fail;
-use xv_base::{Cause, Event, GuestId, Note, Turn};
+use xv_base::{Cause, Event, GuestId, NoMemory, Note, Turn};
 use xv_core::fits;
-use xv_job::read_job;
+use xv_job::{Job, read_job};
 
 /// A job but for its faults: a page, a disk of two blocks, two streams, and a guest that writes the second block.
 const FRONT: &[u8] =
@@ -112,34 +116,65 @@ fn text_with(alloc: Global, fault: &[u8]) -> Result<Vec<u8>, AllocError> {
     Ok(text)
 }
 
+/// The job that a text says.
+pub fn job_said(alloc: Global, text: &[u8]) -> Option<Job> {
+    match read_job(alloc, text) {
+        Ok((job, _place)) => Some(job),
+        Err(_) => None,
+    }
+}
+
+/// Whether an event fits a migration's job.
+pub fn is_fit(machine: &Machine, event: Event) -> bool
+    ensures { result ≡ fits (job_of machine.now.job) event }
+{
+    fits(machine.job(), event)
+}
+
 /// The answer of an event; none where it does not fit the job.
-fn step(machine: &mut Machine, event: Event) -> Option<Turn> {
-    if fits(machine.job(), event) {
+pub fn step(machine: &mut Machine, event: Event) -> Option<Turn> {
+    if is_fit(machine, event) {
         Some(machine.step(event))
     } else {
         None
     }
 }
 
-/// What the last event of a case answers, once those before it have happened.
-fn answer(alloc: Global, case: &Case) -> Result<Option<Turn>, Fail> {
-    let text = text_with(alloc, case.fault)?;
-    let Ok((job, _place)) = read_job(alloc, &text) else {
-        return Err(Fail::new("no job"));
-    };
-    let mut machine = begin(alloc, job)?;
-    for event in case.before {
-        let Some(Turn::Done(_)) = step(&mut machine, *event) else {
-            return Err(Fail::new("another answer"));
-        };
+fn is_done(answer: Option<Turn>) -> bool {
+    matches!(answer, Some(Turn::Done(_)))
+}
+
+/// Whether these events happen one after another.
+fn happen(machine: &mut Machine, events: &[Event]) -> bool {
+    for event in events {
+        if !is_done(step(machine, *event)) {
+            return false;
+        }
     }
-    Ok(step(&mut machine, case.event))
+    true
+}
+
+/// What the last event of a case answers; none where one before it does not happen.
+fn last_answer(machine: &mut Machine, case: &Case) -> Option<Turn> {
+    if happen(machine, case.before) {
+        step(machine, case.event)
+    } else {
+        None
+    }
+}
+
+/// What the last event of a case answers on a migration of a job.
+fn answer(alloc: Global, job: Job, case: &Case) -> Result<Option<Turn>, NoMemory> {
+    let mut machine = begin(alloc, job)?;
+    Ok(last_answer(&mut machine, case))
 }
 
 #[test]
 fn fails_at_the_planned_calls(rt: HostRuntime) -> Result<(), Fail> {
     for case in CASES {
-        assert_eq!(rt; answer(rt.alloc(), case)?, Some(case.answer));
+        let text = text_with(rt.alloc(), case.fault)?;
+        let job = job_said(rt.alloc(), &text).ok_or("no job")?;
+        assert_eq!(rt; answer(rt.alloc(), job, case)?, Some(case.answer));
     }
     Ok(())
 }
