@@ -8,3 +8,7 @@ pub mod Always
 pub mod Ran
 pub mod Refusals
 pub mod Handovers
+pub mod Agreeing
+pub mod Unmigrated
+pub mod Driven
+pub mod Complete

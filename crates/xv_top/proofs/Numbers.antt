@@ -1,6 +1,6 @@
 -- The number that a word says.
 use Rattle.std.specs.Prelude.{◌≡◌, ℕ, List, [], ◌++◌, decimal}
-use Rattle.std.proofs.Common.{refl, sym, ap, ◌∙◌}
+use Rattle.std.proofs.Common.{sym, ap, ◌∙◌}
 
 -- what is spelled of a number is the word that says it
 pub spelled-word : (empty spelled word : List ℕ) (pushed parsed n : ℕ) → empty ≡ [] → spelled ≡ empty ++ decimal pushed → pushed ≡ parsed → parsed ≡ n → word ≡ decimal n → spelled ≡ word

@@ -37,6 +37,10 @@ reads-few old new e a before now read s was is cut =
     ∙ (ap (λ (bytes : List ℕ). drop (length old.reads) bytes) s.reads.behind ∙ drop-append_seam old.reads s.reads.bytes) in
     omega (arith, ap (λ (bytes : List ℕ). length bytes) more, s.reads.few)
 
+-- what was appended to an empty line is the line
+pub line-begun : (bytes line was text : List ℕ) → bytes ≡ line → line ≡ was ++ text → was ≡ [] → bytes ≡ text
+line-begun bytes line was text is appended begun = is ∙ (appended ∙ ap (λ (xs : List ℕ). xs ++ text) begun)
+
 -- the line that is printed is the event's
 pub event-played : (old new : Seen) (e : Event) (a : Turn) (before now read text : List ℕ) → IsStep old e a new → IsKept new → before ≡ old.reads → now ≡ new.reads → read ≡ drop (length before) now → text ≡ turn_line e a read → IsEventPlayed old e new text
 event-played old new e a before now read text s kept was is cut line = record {

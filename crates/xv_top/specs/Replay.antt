@@ -1,5 +1,6 @@
 -- What `replay` writes for what it reads.
 use Rattle.std.specs.Prelude.{ℕ, List, [], ◌∷◌, ◌++◌, length, None}
+use Rattle.xv_base.specs.declared.event.Totals.{Totals}
 use Rattle.xv_model.specs.Job.{Job}
 use Rattle.xv_model.specs.Guest.{read_bytes}
 use Rattle.xv_model.specs.View.{View, first_view}
@@ -11,7 +12,10 @@ use Rattle.xv_script.specs.Lines.{turn_line, probe_line, script_text, events_of}
 use Rattle.xv_script.specs.declared.line.Line.{Line}
 use Rattle.xv_script.specs.declared.line.Line.TheVariants.{Step, Ask}
 use Rattle.xv_report.specs.Texts.{report_text, image_text}
+use Rattle.xv_report.specs.Json.{report_json}
 use Rattle.xv_parts.specs.Sides.{sources, dests}
+use Rattle.xv_top.specs.declared.command.Form.{Form}
+use Rattle.xv_top.specs.declared.command.Form.TheVariants.{Rows, Json}
 
 -- the input: a job, and a script
 abbrev pub input_text : Written → List Line → List ℕ
@@ -31,9 +35,14 @@ transcript_from job v calls (Ask unit ∷ ls) = probe_line (probe job v unit.0) 
 abbrev pub transcript : Job → List Line → List ℕ
 transcript job lines = transcript_from job (first_view job) [] lines
 
--- the output: the transcript of the lines, and the report and the image of the journal that their events make
-abbrev pub result_text : Job → List Entry → List ℕ
-result_text job journal = report_text (totals job (run job journal) (length journal)) None ++ image_text (sources job (run job journal)) (dests job (run job journal))
+-- the report in a form: a line for each number, or one line of JSON
+abbrev pub totals_text : Form → Totals → List ℕ
+totals_text Rows t = report_text t None
+totals_text Json t = report_json t None
 
-abbrev pub output_text : Job → List Line → List ℕ
-output_text job lines = transcript job lines ++ result_text job (play job (events_of lines))
+-- the output: the transcript of the lines, and the report and the image of the journal that their events make
+abbrev pub result_text : Form → Job → List Entry → List ℕ
+result_text form job journal = totals_text form (totals job (run job journal) (length journal)) ++ image_text (sources job (run job journal)) (dests job (run job journal))
+
+abbrev pub output_text : Form → Job → List Line → List ℕ
+output_text form job lines = transcript job lines ++ result_text form job (play job (events_of lines))

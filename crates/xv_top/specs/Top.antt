@@ -19,6 +19,7 @@ use Rattle.xv_core.specs.Seen.{Seen, view_of}
 use Rattle.xv_core.specs.Keeping.{IsKept}
 use Rattle.xv_top.specs.Replay.{input_text, output_text}
 use Rattle.xv_top.specs.Refused.{input_limit, input_fault, refused_line}
+use Rattle.xv_top.specs.declared.command.Form.{Form}
 use Rattle.xv_top.specs.declared.program.Left.{Left}
 use Rattle.xv_top.specs.declared.program.Left.TheVariants.{First}
 use Rattle.xv_top.specs.declared.input.InputError.{InputError}
@@ -62,29 +63,29 @@ pub record HasRun (written : Written) (lines : List Line) (m : Seen) : Type 0 wh
   pub always : (n : ℕ) → HoldsAfter (job_of written) (play (job_of written) (take n (events_of lines)))
 
 -- a job and a script were read, the migration that is left has run them, and their output was taken
-pub record IsReplayed (bytes old new : Option (List ℕ)) (left : Left) : Type 0 where
+pub record IsReplayed (form : Form) (bytes old new : Option (List ℕ)) (left : Left) : Type 0 where
   pub written : Written
   pub lines : List Line
   pub migration : Seen
   pub input : IfSome bytes (λ xs. IsInput xs written lines)
-  pub output : TookMore old new (output_text (job_of written) lines)
+  pub output : TookMore old new (output_text form (job_of written) lines)
   pub has_run : HasRun written lines migration
   pub is_left : left ≡ First migration
 
 -- where the output failed: a front of the refusal of an input that is refused, or of the output of the job and the
 -- script
-pub record IsFrontOf (bytes : Option (List ℕ)) (old new : Option (List ℕ)) (written : Written) (lines : List Line) : Type 0 where
+pub record IsFrontOf (form : Form) (bytes : Option (List ℕ)) (old new : Option (List ℕ)) (written : Written) (lines : List Line) : Type 0 where
   pub input : IfSome bytes (λ xs. IsInput xs written lines)
-  pub front : TookFront old new (output_text (job_of written) lines)
+  pub front : TookFront old new (output_text form (job_of written) lines)
 
 pub record IsFrontOfRefusal (bytes : Option (List ℕ)) (old new : Option (List ℕ)) (fault : LineFault) : Type 0 where
   pub refused : IfSome bytes (λ xs. IsRefused xs fault)
   pub front : TookFront old new (refused_line fault)
 
-abbrev pub IsFrontFor : Option (List ℕ) → Option (List ℕ) → Option (List ℕ) → Type 0
-IsFrontFor bytes old new =
+abbrev pub IsFrontFor : Form → Option (List ℕ) → Option (List ℕ) → Option (List ℕ) → Type 0
+IsFrontFor form bytes old new =
     ((fault : LineFault) × IsFrontOfRefusal bytes old new fault)
-    ⊎ ((written : Written) × ((lines : List Line) × IsFrontOf bytes old new written lines))
+    ⊎ ((written : Written) × ((lines : List Line) × IsFrontOf form bytes old new written lines))
 
 -- what a refused input is refused for, and whether a read failed
 abbrev pub RefusedSo : InputError → (LineFault → Type 0) → Type 0

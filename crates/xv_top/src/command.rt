@@ -5,15 +5,26 @@ ghost use Rattle.xv_top.specs.Command.{words_of, IsNoCommand};
 
 use xv_base::LineBuf;
 
+/// How a report is written.
+#[derive(Clone, Copy, Debug, PartialEq, Eq)]
+pub enum Form {
+    /// A line for each number.
+    Rows,
+    /// One line of JSON.
+    Json,
+}
+
 /// What the program is called to do.
 #[derive(Clone, Copy, Debug, PartialEq, Eq)]
 pub enum Command {
-    /// Plays a script on a migration of a job.
-    Replay,
+    /// Plays a script on a migration of a job, and writes its report in a form.
+    Replay(Form),
     /// Writes the job that a number makes.
     Gen(u16),
     /// Plays a script on two nodes that hand a guest over.
     Handover,
+    /// Drives the job that a number makes to its end.
+    Drive(u16),
 }
 
 /// The command that words call; none where they call none.
@@ -33,7 +44,7 @@ fn of_one_word(word: &str) -> Option<Command>
     ensures none { IfNone result (IsNoCommand (word.now ∷ [])) }
 {
     match word {
-        "replay" => Some(Command::Replay),
+        "replay" => Some(Command::Replay(Form::Rows)),
         "handover" => Some(Command::Handover),
         _ => None,
     }
@@ -44,7 +55,9 @@ fn of_two_words(word: &str, more: &str) -> Option<Command>
     ensures none { IfNone result (IsNoCommand (word.now ∷ more.now ∷ [])) }
 {
     match word {
+        "replay" if more == "--json" => Some(Command::Replay(Form::Json)),
         "gen" => number_of(more).map(Command::Gen),
+        "drive" => number_of(more).map(Command::Drive),
         _ => None,
     }
 }

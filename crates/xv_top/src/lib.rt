@@ -1,14 +1,16 @@
 // The program as a function of its words, its input and its output.
 //
 // `top` does what the table of commands has for its words. `replay` reads all input, checks it whole, plays the script on a
-// migration in memory, and writes the transcript, the report and the image; the migration that ran is handed out.
-// `gen` writes the job that its number makes, and reads nothing.
+// migration in memory, and writes the transcript, the report in rows or as JSON, and the image; the migration that ran is
+// handed out. `gen` writes the job that its number makes, and `drive` drives that job to its end and writes its report, and
+// in how many units the guests' owner agrees with the unmigrated guest; both read nothing.
 // `handover` reads and checks the same way, plays the script on two nodes, and writes the answers and the nodes. What is
 // written is a stated function of what was read, and a refusal names the first faulty line. `replay_on` plays lines on a
 // migration over any devices and wires.
 #![tactic(auto)]
 
 mod command;
+mod driving;
 mod generating;
 mod handover;
 mod input;
@@ -19,3 +21,12 @@ mod refusal;
 
 pub use playing::replay_on;
 pub use program::{Left, top};
+
+#[cfg(test)]
+mod drive_tests;
+#[cfg(test)]
+mod handover_tests;
+#[cfg(test)]
+mod replay_tests;
+#[cfg(test)]
+mod tests;

@@ -1,30 +1,57 @@
 //! The output of the program: the report and the image of a migration, and whole texts.
 
-ghost use Rattle.std.specs.Prelude.{◌≡◌, OnOk, OnErr};
+ghost use Rattle.std.specs.Prelude.{◌≡◌, ◌≤◌, OnOk, OnErr, IsErrOf};
 ghost use Rattle.xv_io.specs.Io.{CountRose, TookMore, TookFront};
 ghost use Rattle.xv_job.specs.Written.{job_of};
 ghost use Rattle.xv_parts.specs.Memory.{IsInMemory};
-ghost use Rattle.xv_top.specs.Replay.{result_text};
+ghost use Rattle.xv_top.specs.Replay.{totals_text, result_text};
 
-use xv_base::Layout;
+use crate::command::Form;
+use std::alloc::Global;
+use xv_base::{Layout, Totals};
 use xv_io::{Sink, WriteFault, write_text};
 use xv_job::Job;
 use xv_parts::Machine;
-use xv_report::{write_image, write_report};
+use xv_report::{JsonFault, write_image, write_report, write_report_json};
 
-/// Writes the report and the image of a migration, and hands all on.
-pub fn write_result<O: Sink>(machine: &Machine, output: &mut O) -> Result<(), WriteFault>
+/// Writes the report of a migration in a form, and its image, and hands all on.
+///
+/// Errors: `WriteFault` where the output failed, `NoMemory` where there was no memory for the line of JSON.
+pub fn write_result<O: Sink>(
+    alloc: Global,
+    form: Form,
+    machine: &Machine,
+    output: &mut O,
+) -> Result<(), JsonFault>
     requires { IsInMemory machine.now }
-    ensures whole { OnOk result (TookMore (O.taken output.old) (O.taken output.new) (result_text (job_of machine.now.job) machine.now.journal)) }
-    ensures front { TookFront (O.taken output.old) (O.taken output.new) (result_text (job_of machine.now.job) machine.now.journal) }
-    ensures fault { OnErr result (CountRose (O.faults output.old) (O.faults output.new)) }
+    ensures whole { OnOk result (TookMore (O.taken output.old) (O.taken output.new) (result_text form (job_of machine.now.job) machine.now.journal)) }
+    ensures front { TookFront (O.taken output.old) (O.taken output.new) (result_text form (job_of machine.now.job) machine.now.journal) }
+    ensures fault { IsErrOf result JsonFault.WriteFault → CountRose (O.faults output.old) (O.faults output.new) }
 {
-    write_report(&machine.totals(), None, output)?;
+    write_totals(alloc, form, &machine.totals(), output)?;
     let layout = layout_of(machine.job());
     write_image(layout, machine.source(), machine.dest(), output)?;
     match output.flush() {
         Ok(()) => Ok(()),
-        Err(_) => Err(WriteFault),
+        Err(_) => Err(JsonFault::WriteFault),
+    }
+}
+
+/// Writes a report in a form. The form of rows takes no memory.
+fn write_totals<O: Sink>(
+    alloc: Global,
+    form: Form,
+    totals: &Totals,
+    output: &mut O,
+) -> Result<(), JsonFault>
+    ensures whole { OnOk result (TookMore (O.taken output.old) (O.taken output.new) (totals_text form totals.now)) }
+    ensures front { TookFront (O.taken output.old) (O.taken output.new) (totals_text form totals.now) }
+    ensures fault { IsErrOf result JsonFault.WriteFault → CountRose (O.faults output.old) (O.faults output.new) }
+    ensures counts { O.faults output.old ≤ O.faults output.new }
+{
+    match form {
+        Form::Rows => Ok(write_report(totals, None, output)?),
+        Form::Json => write_report_json(alloc, totals, None, output),
     }
 }
 

@@ -1,23 +1,24 @@
 //! A script that is played: each event is one step, and each line is answered.
 
-ghost use Rattle.std.specs.Prelude.{◌≡◌, ◌≤◌, ℕ, true, List, OnOk, OnErr};
+ghost use Rattle.std.specs.Prelude.{◌≡◌, ◌<◌, ◌≤◌, ℕ, true, List, OnOk, OnErr};
 ghost use Rattle.std.specs.List.{list_all};
 ghost use Rattle.xv_io.specs.Io.{CountRose, TookMore};
+ghost use Rattle.xv_model.specs.Job.{unit_count};
 ghost use Rattle.xv_model.specs.Wait.{fits};
 ghost use Rattle.xv_job.specs.Written.{job_of};
 ghost use Rattle.xv_script.specs.Script.{is_in};
-ghost use Rattle.xv_script.specs.declared.line.Line.TheVariants.{Step};
+ghost use Rattle.xv_script.specs.declared.line.Line.TheVariants.{Step, Ask};
 ghost use Rattle.xv_core.specs.Rising.{Rises, TakesRise};
 ghost use Rattle.xv_core.specs.Stepped.{KeepsUnwritten, TellsOn};
 ghost use Rattle.xv_core.specs.Keeping.{IsKept};
 ghost use Rattle.xv_top.specs.Playing.{ArePlayed, IsCutShort, IsLineWritten, IsLineCut};
 
 use crate::input::behind;
-use xv_base::Event;
+use xv_base::{Event, LineBuf, UnitId};
 use xv_core::Migration;
 use xv_device::UnitDevice;
 use xv_io::{Sink, WriteFault, write_text};
-use xv_script::{Line, print_probe, print_turn};
+use xv_script::{Line, print_probe, push_turn};
 use xv_wire::Wire;
 
 /// Why a command did not write all that it writes.
@@ -71,8 +72,25 @@ fn play_line<S: UnitDevice, T: UnitDevice, W: Wire, O: Sink>(
 {
     match line {
         Line::Step(event) => play_event(migration, event, sink),
-        Line::Ask(unit) => write_text(sink, print_probe(migration.probe(unit)).bytes()),
+        Line::Ask(unit) => tell_unit(migration, unit, sink),
     }
+}
+
+/// Writes what is asked of a unit. It stays a call of its own, since the room for its line would else be made at each
+/// event too.
+#[inline(never)]
+fn tell_unit<S: UnitDevice, T: UnitDevice, W: Wire, O: Sink>(
+    migration: &Migration<S, T, W>,
+    unit: UnitId,
+    sink: &mut O,
+) -> Result<(), WriteFault>
+    requires in_job { unit.0 < unit_count (job_of migration.now.job) }
+    ensures whole { OnOk result (IsLineWritten migration.now (Ask unit) migration.now (O.taken sink.old) (O.taken sink.new)) }
+    ensures front { OnErr result (IsLineCut migration.now (Ask unit) migration.now (O.taken sink.old) (O.taken sink.new)) }
+    ensures fault { OnErr result (CountRose (O.faults sink.old) (O.faults sink.new)) }
+    ensures counts { O.faults sink.old ≤ O.faults sink.new }
+{
+    write_text(sink, print_probe(migration.probe(unit)).bytes())
 }
 
 /// Steps a migration by one event, and writes what it answers, with what it read for its guest.
@@ -89,6 +107,7 @@ fn play_event<S: UnitDevice, T: UnitDevice, W: Wire, O: Sink>(
 {
     let before = migration.reads().len();
     let turn = migration.step(event);
-    let line = print_turn(event, turn, behind(migration.reads(), before));
+    let mut line = LineBuf::new();
+    push_turn(&mut line, event, turn, behind(migration.reads(), before));
     write_text(sink, line.bytes())
 }

@@ -4,15 +4,17 @@ ghost use Rattle.std.specs.Prelude.{ℕ, ◌≡◌, ◌≢◌, ◌≤◌, ◌+�
 ghost use Rattle.xv_io.specs.Io.{CountRose, IsAtEnd, GaveAtLeast, TookMore, TookFront};
 ghost use Rattle.xv_job.specs.Written.{job_of};
 ghost use Rattle.xv_script.specs.Script.{IsScriptOf};
+ghost use Rattle.xv_parts.specs.Memory.{begun_in_memory};
 ghost use Rattle.xv_top.specs.Replay.{output_text};
 ghost use Rattle.xv_top.specs.Refused.{input_limit, refused_words};
 ghost use Rattle.xv_top.specs.Top.{IsReplayed, IsFrontFor, HasRun};
 ghost use Rattle.xv_top.specs.Command.{words_of, IsNoCommand};
-ghost use Rattle.xv_top.specs.Answers.{IsDone, HasRead, IsRefusedBy, IsFrontBy};
+ghost use Rattle.xv_top.specs.Answers.{IsDone, HasRead, IsRefusedBy, IsFrontBy, IsGoodFor, IsComplete};
 ghost use Rattle.xv_top.specs.declared.command.Command.{Command as CommandName};
-ghost use Rattle.xv_top.specs.declared.command.Command.TheVariants.{Replay, Gen};
+ghost use Rattle.xv_top.specs.declared.command.Command.TheVariants.{Replay, Gen, Drive};
 
-use crate::command::{Command, command_of};
+use crate::command::{Command, Form, command_of};
+use crate::driving::run_drive;
 use crate::generating::run_gen;
 use crate::handover::run_handover;
 use crate::input::{InputError, read_input};
@@ -24,6 +26,7 @@ use xv_base::Status;
 use xv_io::{Sink, Source};
 use xv_job::Job;
 use xv_parts::{Machine, begin};
+use xv_report::JsonFault;
 use xv_script::Line;
 
 /// What a call leaves behind: the migration that ran, or nothing.
@@ -34,13 +37,14 @@ pub enum Left {
 }
 
 /// Runs the program: the command that the words call. `replay` reads a job and a script, plays the script, and writes
-/// what each event answers, the report and the image; `left` is then the migration that ran. `gen` writes the job that its
-/// number makes, and reads nothing. `handover` reads a script of two nodes, plays it, and writes what each event answers
-/// and the nodes.
+/// what each event answers, the report and the image; `left` is then the migration that ran. With `--json` its report is
+/// one line of JSON. `gen` writes the job that its number makes, and `drive` drives that job to its end and writes its
+/// report, and in how many units the guests' owner agrees with the unmigrated guest; `left` is then the migration that ran.
+/// Both read nothing. `handover` reads a script of two nodes, plays it, and writes what each event answers and the nodes.
 ///
 /// Answers `BadWords` where the words call no command, `BadInput` where the input is refused, `ReadFault` and
-/// `WriteFault` where the input or the output failed, `NoMemory` for want of memory. At every answer but `Fine`, and
-/// at every answer of `gen` and `handover`, `left` is nothing.
+/// `WriteFault` where the input or the output failed, `NoMemory` for want of memory, where what was written is not said.
+/// At every answer but `Fine`, and at every answer of `gen` and `handover`, `left` is nothing.
 pub fn top<I: Source, O: Sink>(
     alloc: Global,
     words: &[String],
@@ -53,8 +57,9 @@ pub fn top<I: Source, O: Sink>(
     ensures fine_reads { result ≡ Status.Fine → (command : CommandName) × ((map (λ w. string_bytes w) words.now ≡ words_of command) × HasRead command (I.left input.new)) }
     ensures fine { result ≡ Status.Fine → (command : CommandName) × ((map (λ w. string_bytes w) words.now ≡ words_of command) × IsDone command (I.left input.old) (O.taken output.old) (O.taken output.new) left.new) }
 
-    // `gen` reads nothing, whatever it answers.
+    // `gen` and `drive` read nothing, whatever they answer.
     ensures gen_reads_nothing { (number : ℕ) → map (λ w. string_bytes w) words.now ≡ words_of (Gen number) → (I.left input.new ≡ I.left input.old) × (I.faults input.new ≡ I.faults input.old) }
+    ensures drive_reads_nothing { (number : ℕ) → map (λ w. string_bytes w) words.now ≡ words_of (Drive number) → (I.left input.new ≡ I.left input.old) × (I.faults input.new ≡ I.faults input.old) }
 
     // BadWords: exactly where the words call no command, unless the refusal cannot be written.
     ensures bad_words { result ≡ Status.BadWords → IsNoCommand (map (λ w. string_bytes w) words.now) × TookMore (O.taken output.old) (O.taken output.new) refused_words }
@@ -70,34 +75,40 @@ pub fn top<I: Source, O: Sink>(
     ensures front_of_words { result ≡ Status.WriteFault → IsNoCommand (map (λ w. string_bytes w) words.now) → TookFront (O.taken output.old) (O.taken output.new) refused_words }
     ensures front_of_text { result ≡ Status.WriteFault → (IsNoCommand (map (λ w. string_bytes w) words.now) → ⊥) → (command : CommandName) × ((map (λ w. string_bytes w) words.now ≡ words_of command) × IsFrontBy command (I.left input.old) (O.taken output.old) (O.taken output.new)) }
 
+    // Completeness: with the words of a command, a good input, and no count of the input or the output that rose, all is
+    // done, but for want of memory.
+    ensures complete { (IsNoCommand (map (λ w. string_bytes w) words.now) → ⊥) → (command : CommandName) × ((map (λ w. string_bytes w) words.now ≡ words_of command) × (IsGoodFor command (I.left input.old) → (CountRose (I.faults input.old) (I.faults input.new) → ⊥) → (CountRose (O.faults output.old) (O.faults output.new) → ⊥) → IsComplete result)) }
+
     ensures left { (result ≡ Status.Fine → ⊥) → left.new ≡ Left.Nothing }
     ensures no_other { (result ≢ Status.Failed) × (result ≢ Status.Cancelled) }
 {
     *left = Left::Nothing;
     match command_of(words) {
-        Some(Command::Replay) => run_replay(alloc, input, output, left),
+        Some(Command::Replay(form)) => run_replay(alloc, form, input, output, left),
         Some(Command::Gen(number)) => run_gen(alloc, number, output),
         Some(Command::Handover) => run_handover(alloc, input, output),
+        Some(Command::Drive(number)) => run_drive(alloc, number, output, left),
         None => refuse_words(output),
     }
 }
 
 /// Reads a job and a script to the end of the input, plays the script, and writes what each event answers, the report
-/// and the image.
+/// in a form and the image.
 fn run_replay<I: Source, O: Sink>(
     alloc: Global,
+    form: Form,
     input: &mut I,
     output: &mut O,
     left: &mut Left,
 ) -> Status
     requires { left.old ≡ Left.Nothing }
     ensures fine_reads { result ≡ Status.Fine → IsAtEnd (I.left input.new) }
-    ensures fine { result ≡ Status.Fine → IsReplayed (I.left input.old) (O.taken output.old) (O.taken output.new) left.new }
-    ensures bad_input { result ≡ Status.BadInput → IsRefusedBy Replay (I.left input.old) (O.taken output.old) (O.taken output.new) }
+    ensures fine { result ≡ Status.Fine → IsReplayed form (I.left input.old) (O.taken output.old) (O.taken output.new) left.new }
+    ensures bad_input { result ≡ Status.BadInput → IsRefusedBy (Replay form) (I.left input.old) (O.taken output.old) (O.taken output.new) }
     ensures bad_input_reads { result ≡ Status.BadInput → IsAtEnd (I.left input.new) ⊎ GaveAtLeast (input_limit + 1) (I.left input.old) (I.left input.new) }
     ensures read_fault { result ≡ Status.ReadFault → CountRose (I.faults input.old) (I.faults input.new) × (O.taken output.new ≡ O.taken output.old) }
     ensures write_fault { result ≡ Status.WriteFault → CountRose (O.faults output.old) (O.faults output.new) }
-    ensures front { result ≡ Status.WriteFault → IsFrontFor (I.left input.old) (O.taken output.old) (O.taken output.new) }
+    ensures front { result ≡ Status.WriteFault → IsFrontFor form (I.left input.old) (O.taken output.old) (O.taken output.new) }
     ensures left { (result ≡ Status.Fine → ⊥) → left.new ≡ Left.Nothing }
     ensures no_other { (result ≢ Status.BadWords) × (result ≢ Status.Failed) × (result ≢ Status.Cancelled) }
 {
@@ -107,7 +118,7 @@ fn run_replay<I: Source, O: Sink>(
         Err(InputError::NoMemory) => return Status::NoMemory,
         Err(InputError::Refused(fault)) => return refuse_input(fault, output),
     };
-    match replay(alloc, job, &lines, output) {
+    match replay(alloc, form, job, &lines, output) {
         Ok(machine) => {
             *left = Left::First(machine);
             Status::Fine
@@ -118,29 +129,55 @@ fn run_replay<I: Source, O: Sink>(
 }
 
 /// Plays a script on a migration of a job from its start, over devices and wires in memory, and writes all that `replay`
-/// writes.
+/// writes, with its report in a form.
 fn replay<O: Sink>(
     alloc: Global,
+    form: Form,
     job: Job,
     lines: &[Line],
     output: &mut O,
 ) -> Result<Machine, PlayError>
     requires script { IsScriptOf (job_of job) lines.now }
     ensures ran { IfOk result (λ m. HasRun job lines.now m) }
-    ensures written { OnOk result (TookMore (O.taken output.old) (O.taken output.new) (output_text (job_of job) lines.now)) }
-    ensures front { OnErr result (TookFront (O.taken output.old) (O.taken output.new) (output_text (job_of job) lines.now)) }
+    ensures written { OnOk result (TookMore (O.taken output.old) (O.taken output.new) (output_text form (job_of job) lines.now)) }
+    ensures front { OnErr result (TookFront (O.taken output.old) (O.taken output.new) (output_text form (job_of job) lines.now)) }
     ensures fault { IsErrOf result PlayError.WriteFault → CountRose (O.faults output.old) (O.faults output.new) }
 {
     let mut machine = match begin(alloc, job) {
         Ok(machine) => machine,
         Err(_) => return Err(PlayError::NoMemory),
     };
+    match play_script(alloc, form, &mut machine, lines, output) {
+        Ok(()) => Ok(machine),
+        Err(error) => Err(error),
+    }
+}
+
+/// Plays a script on a migration in memory that has just begun, and writes all that `replay` writes, with its report in a
+/// form.
+///
+/// Errors: `WriteFault` where the output failed, `NoMemory` where there was no memory for the line of JSON.
+fn play_script<O: Sink>(
+    alloc: Global,
+    form: Form,
+    machine: &mut Machine,
+    lines: &[Line],
+    output: &mut O,
+) -> Result<(), PlayError>
+    requires begun { machine.old ≡ begun_in_memory machine.old.job }
+    requires script { IsScriptOf (job_of machine.old.job) lines.now }
+    ensures ran { OnOk result (HasRun machine.old.job lines.now machine.new) }
+    ensures written { OnOk result (TookMore (O.taken output.old) (O.taken output.new) (output_text form (job_of machine.old.job) lines.now)) }
+    ensures front { OnErr result (TookFront (O.taken output.old) (O.taken output.new) (output_text form (job_of machine.old.job) lines.now)) }
+    ensures fault { IsErrOf result PlayError.WriteFault → CountRose (O.faults output.old) (O.faults output.new) }
+{
     // That it keeps what every migration keeps is told with its journal.
     let _ = machine.journal();
-    match replay_on(&mut machine, lines, output) {
-        Ok(()) => match write_result(&machine, output) {
-            Ok(()) => Ok(machine),
-            Err(_) => Err(PlayError::WriteFault),
+    match replay_on(machine, lines, output) {
+        Ok(()) => match write_result(alloc, form, machine, output) {
+            Ok(()) => Ok(()),
+            Err(JsonFault::WriteFault) => Err(PlayError::WriteFault),
+            Err(JsonFault::NoMemory) => Err(PlayError::NoMemory),
         },
         Err(_) => Err(PlayError::WriteFault),
     }

@@ -1,45 +1,44 @@
-use Rattle.std.specs.Prelude.{None}
-use Rattle.xv_report.specs.Texts.{report_text, image_text}
+use Rattle.xv_report.specs.Texts.{image_text}
 use Rattle.xv_report.proofs.Took.{front-first, front-last, front-whole}
 use Rattle.xv_job.specs.Written.{job_of}
 use Rattle.xv_core.specs.Seen.{view_of}
 use Rattle.xv_parts.specs.Sides.{sources, dests}
-use Rattle.xv_top.specs.Replay.{result_text}
+use Rattle.xv_top.specs.Replay.{totals_text, result_text}
 use Rattle.xv_top.proofs.Results.{report-is, result-is, written}
 use Rattle.xv_top.proofs.output.write_result.Goals as goal
 
-pub returns-in_err-write_report-clause-front : goal.returns-in_err-write_report-clause-front
-returns-in_err-write_report-clause-front g c =
+pub returns-in_err-write_totals-clause-front : goal.returns-in_err-write_totals-clause-front
+returns-in_err-write_totals-clause-front g c =
     let m = c.args.machine.now in
-    front-first (g.O.Sink.taken c.args.output.now) (g.O.Sink.taken c.write_report.new.sink) (report_text c.totals.result None) (image_text (sources (job_of m.job) (view_of m)) (dests (job_of m.job) (view_of m))) (result_text (job_of m.job) m.journal)
-    c.write_report.ensures.front (report-is m c.totals.result c.totals.ensures)
+    front-first (g.O.Sink.taken c.args.output.now) (g.O.Sink.taken c.write_totals.new.output) (totals_text c.args.form c.totals.result) (image_text (sources (job_of m.job) (view_of m)) (dests (job_of m.job) (view_of m))) (result_text c.args.form (job_of m.job) m.journal)
+    c.write_totals.ensures.front (report-is c.args.form m c.totals.result c.totals.ensures)
 
 pub returns-in_err-write_image-clause-front : goal.returns-in_err-write_image-clause-front
 returns-in_err-write_image-clause-front g c =
     let m = c.args.machine.now in
-    front-last (g.O.Sink.taken c.args.output.now) (g.O.Sink.taken c.write_report.new.sink) (g.O.Sink.taken c.write_image.new.sink) (report_text c.totals.result None) (image_text c.source.result.now.contents c.dest.result.now.contents) (result_text (job_of m.job) m.journal)
-    c.in_ok-write_report.ensures.whole c.write_image.ensures.front
-    (result-is m c.totals.result c.source.result.now c.dest.result.now c.requires c.totals.ensures c.source.ensures.told c.dest.ensures.told)
+    front-last (g.O.Sink.taken c.args.output.now) (g.O.Sink.taken c.write_totals.new.output) (g.O.Sink.taken c.write_image.new.sink) (totals_text c.args.form c.totals.result) (image_text c.source.result.now.contents c.dest.result.now.contents) (result_text c.args.form (job_of m.job) m.journal)
+    c.in_ok-write_totals.ensures.whole c.write_image.ensures.front
+    (result-is c.args.form m c.totals.result c.source.result.now c.dest.result.now c.requires c.totals.ensures c.source.ensures.told c.dest.ensures.told)
 
 pub returns-in-Ok-clause-whole : goal.returns-in-Ok-clause-whole
 returns-in-Ok-clause-whole g c =
     let m = c.args.machine.now in
-    written (g.O.Sink.taken c.args.output.now) (g.O.Sink.taken c.write_report.new.sink) (g.O.Sink.taken c.write_image.new.sink) (g.O.Sink.taken c.flush.new.self) (report_text c.totals.result None) (image_text c.source.result.now.contents c.dest.result.now.contents) (result_text (job_of m.job) m.journal)
-    c.in_ok-write_report.ensures.whole c.in_ok-write_image.ensures.whole c.flush.ensures.stays
-    (result-is m c.totals.result c.source.result.now c.dest.result.now c.requires c.totals.ensures c.source.ensures.told c.dest.ensures.told)
+    written (g.O.Sink.taken c.args.output.now) (g.O.Sink.taken c.write_totals.new.output) (g.O.Sink.taken c.write_image.new.sink) (g.O.Sink.taken c.flush.new.self) (totals_text c.args.form c.totals.result) (image_text c.source.result.now.contents c.dest.result.now.contents) (result_text c.args.form (job_of m.job) m.journal)
+    c.in_ok-write_totals.ensures.whole c.in_ok-write_image.ensures.whole c.flush.ensures.stays
+    (result-is c.args.form m c.totals.result c.source.result.now c.dest.result.now c.requires c.totals.ensures c.source.ensures.told c.dest.ensures.told)
 
 pub returns-in-Ok-clause-front : goal.returns-in-Ok-clause-front
 returns-in-Ok-clause-front g c =
     let m = c.args.machine.now in
-    front-whole (g.O.Sink.taken c.args.output.now) (g.O.Sink.taken c.flush.new.self) (result_text (job_of m.job) m.journal)
-    (written (g.O.Sink.taken c.args.output.now) (g.O.Sink.taken c.write_report.new.sink) (g.O.Sink.taken c.write_image.new.sink) (g.O.Sink.taken c.flush.new.self) (report_text c.totals.result None) (image_text c.source.result.now.contents c.dest.result.now.contents) (result_text (job_of m.job) m.journal)
-    c.in_ok-write_report.ensures.whole c.in_ok-write_image.ensures.whole c.flush.ensures.stays
-    (result-is m c.totals.result c.source.result.now c.dest.result.now c.requires c.totals.ensures c.source.ensures.told c.dest.ensures.told))
+    front-whole (g.O.Sink.taken c.args.output.now) (g.O.Sink.taken c.flush.new.self) (result_text c.args.form (job_of m.job) m.journal)
+    (written (g.O.Sink.taken c.args.output.now) (g.O.Sink.taken c.write_totals.new.output) (g.O.Sink.taken c.write_image.new.sink) (g.O.Sink.taken c.flush.new.self) (totals_text c.args.form c.totals.result) (image_text c.source.result.now.contents c.dest.result.now.contents) (result_text c.args.form (job_of m.job) m.journal)
+    c.in_ok-write_totals.ensures.whole c.in_ok-write_image.ensures.whole c.flush.ensures.stays
+    (result-is c.args.form m c.totals.result c.source.result.now c.dest.result.now c.requires c.totals.ensures c.source.ensures.told c.dest.ensures.told))
 
 pub returns-in-Err-clause-front : goal.returns-in-Err-clause-front
 returns-in-Err-clause-front g c =
     let m = c.args.machine.now in
-    front-whole (g.O.Sink.taken c.args.output.now) (g.O.Sink.taken c.flush.new.self) (result_text (job_of m.job) m.journal)
-    (written (g.O.Sink.taken c.args.output.now) (g.O.Sink.taken c.write_report.new.sink) (g.O.Sink.taken c.write_image.new.sink) (g.O.Sink.taken c.flush.new.self) (report_text c.totals.result None) (image_text c.source.result.now.contents c.dest.result.now.contents) (result_text (job_of m.job) m.journal)
-    c.in_ok-write_report.ensures.whole c.in_ok-write_image.ensures.whole c.flush.ensures.stays
-    (result-is m c.totals.result c.source.result.now c.dest.result.now c.requires c.totals.ensures c.source.ensures.told c.dest.ensures.told))
+    front-whole (g.O.Sink.taken c.args.output.now) (g.O.Sink.taken c.flush.new.self) (result_text c.args.form (job_of m.job) m.journal)
+    (written (g.O.Sink.taken c.args.output.now) (g.O.Sink.taken c.write_totals.new.output) (g.O.Sink.taken c.write_image.new.sink) (g.O.Sink.taken c.flush.new.self) (totals_text c.args.form c.totals.result) (image_text c.source.result.now.contents c.dest.result.now.contents) (result_text c.args.form (job_of m.job) m.journal)
+    c.in_ok-write_totals.ensures.whole c.in_ok-write_image.ensures.whole c.flush.ensures.stays
+    (result-is c.args.form m c.totals.result c.source.result.now c.dest.result.now c.requires c.totals.ensures c.source.ensures.told c.dest.ensures.told))

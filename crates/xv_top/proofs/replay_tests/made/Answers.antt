@@ -1,0 +1,17 @@
+use Rattle.std.proofs.Common.{List, ◌∙◌, [], ap}
+use Rattle.xv_base.specs.declared.pattern.Init.{Init}
+use Rattle.xv_device.specs.Device.{Plan}
+use Rattle.xv_device.specs.Memory.{Device, fresh}
+use Rattle.xv_job.specs.Written.{Written, job_of}
+use Rattle.xv_core.proofs.InMemory.{begins-with}
+use Rattle.xv_top.proofs.replay_tests.made.Goals as goal
+
+abbrev no_fault : Plan
+no_fault = record { reads = []; writes = []; flushes = [] }
+
+pub returns-clause-first : goal.returns-clause-first
+returns-clause-first c =
+    let job = c.args.job in
+    ap (λ (d : Device). d.contents) c.in_ok-source.ensures.fresh
+    ∙ ap (λ (is : List Init). (fresh job.shape is no_fault).contents) (c.deref.ensures.value ∙ ap (λ (w : Written). w.init) c.job.view_is)
+    ∙ begins-with (job_of job) no_fault
