@@ -1,6 +1,6 @@
 //! The slots whose messages are ready, by order of arrival.
 
-ghost use Rattle.std.specs.Prelude.{◌≡◌, ◌+◌, ◌/◌, ◌<◌, ◌≤◌, None, length, drop, set, replicate, IfOk, IfSome, IfNone};
+ghost use Rattle.std.specs.Prelude.{◌≡◌, ◌+◌, ◌/◌, ◌<◌, ◌≤◌, true, None, length, drop, set, replicate, IfOk, IfSome, IfNone};
 ghost use Rattle.xv_hold.specs.Tournament.{earlier, entry_of, IsWonBut, IsEarliest, NoneReady};
 
 use std::alloc::Global;
@@ -112,6 +112,23 @@ fn replay(places: &mut [Option<Entry>], count: usize, place: usize)
     let mut at = place;
     while at > 1 {
         at /= 2;
-        places[at] = earlier(places[2 * at], places[2 * at + 1]);
+        let winner = earlier(places[2 * at], places[2 * at + 1]);
+        // Above a match that ends as before all others do too.
+        if are_same(places[at], winner) {
+            return;
+        }
+        places[at] = winner;
+    }
+}
+
+/// Whether two entries that may be there are the same.
+fn are_same(left: Option<Entry>, right: Option<Entry>) -> bool
+    ensures { result ≡ true → left ≡ right }
+{
+    match (left, right) {
+        (Some(a), Some(b)) => a.arrival == b.arrival && a.slot == b.slot,
+        (None, None) => true,
+        (Some(_), None) => false,
+        (None, Some(_)) => false,
     }
 }
