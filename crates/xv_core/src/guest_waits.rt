@@ -26,7 +26,8 @@ impl<S: UnitDevice, T: UnitDevice, W: Wire> Migration<S, T, W> {
         if let Some(why) = self.held_up(guest) {
             return Some(why);
         }
-        if is_running(self.phase) {
+        // What the operation is matters only where there is no room for a message.
+        if is_running(self.phase) && self.source.is_full() {
             let op = self.next_operation(guest);
             return self.source.guest_waits(guest, &op);
         }

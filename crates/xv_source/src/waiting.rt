@@ -3,7 +3,8 @@
 ghost use Rattle.std.specs.Prelude.{◌≡◌, ◌<◌, ◌&&◌, ◌||◌, ◌==◌, not, nat_lt, nat_le, true, false, length, map, if◌then◌else◌};
 ghost use Rattle.xv_model.specs.Job.{Job};
 ghost use Rattle.xv_model.specs.View.{View, is_empty_set, members, all_copied_by, queues_empty};
-ghost use Rattle.xv_model.specs.Wait.{unless, wait};
+ghost use Rattle.xv_model.specs.Wait.{unless, wait, is_full};
+ghost use Rattle.xv_source.specs.Half.{IsSourceOf};
 ghost use Rattle.xv_source.specs.Step.{Allows, is_of_source};
 ghost use Rattle.xv_source.specs.Waits.{own_wait, is_asked};
 ghost use Rattle.xv_base.specs.declared.event.Event.TheVariants.{Begin, Read, Advance, Release, Round, Page, Send, Stun};
@@ -191,8 +192,9 @@ impl<S: UnitDevice> SourceHalf<S> {
     }
 
     /// Whether there is no room for a message.
-    pub(crate) fn is_full(&self) -> bool
-        ensures { result ≡ nat_le self.now.config.outbox (length self.now.messages) }
+    pub fn is_full(&self) -> bool
+        ensures exactly { result ≡ nat_le self.now.config.outbox (length self.now.messages) }
+        ensures full { (job : Job) (v : View) → IsSourceOf job v self.now → result ≡ is_full job v }
     {
         self.outbox.room() == 0
     }
