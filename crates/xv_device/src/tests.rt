@@ -1,5 +1,5 @@
-ghost use Rattle.std.specs.Prelude.{◌≡◌, ◌<◌, IfOk};
-ghost use Rattle.xv_base.specs.Units.{units};
+ghost use Rattle.std.specs.Prelude.{◌≡◌, ◌<◌, ◌∷◌, [], IfOk};
+ghost use Rattle.xv_base.specs.Units.{units, size};
 ghost use Rattle.xv_device.specs.Device.{FlushAll};
 ghost use Rattle.xv_device.specs.Told.{MayCall, HasRoomToCount};
 ghost use Rattle.xv_device.specs.Memory.{told};
@@ -49,6 +49,40 @@ fn fails_at_the_planned_calls(rt: HostRuntime) -> Result<(), Fail> {
     assert_eq!(rt; device.content(UnitId(0)), b"0123456789abcdef".as_slice());
     assert_eq!(rt; device.flush(), Err(Failed));
     assert_eq!(rt; flush_through(&mut device), Ok(()));
+    Ok(())
+}
+
+/// A device of one unit, of which the calls of one number are to fail.
+fn failing(alloc: Global, number: u32) -> Result<MemDevice, Fail>
+    ensures { IfOk result (λ device. (units device.shape ≡ 1) × (size device.shape 0 ≡ 16) × (device.writes ≡ 0 ∷ []) × (device.calls ≡ record { reads = 0; writes = 0; flushes = 0 })) }
+{
+    let layout = Layout::new(1, 16, &[])?;
+    Ok(MemDevice::new(alloc, &layout, &[], plan(alloc, number, number, number)?)?)
+}
+
+/// Which of the first two calls of each kind fail, where those of one number are to.
+fn failed(alloc: Global, number: u32) -> Result<[[bool; 2]; 3], Fail> {
+    let mut device = failing(alloc, number)?;
+    let mut into = [9; 2];
+    let reads = [
+        device.read(UnitId(0), 14, &mut into).is_err(),
+        device.read(UnitId(0), 0, &mut into).is_err(),
+    ];
+    let mut device = failing(alloc, number)?;
+    let flushes = [device.flush().is_err(), device.flush().is_err()];
+    let mut device = failing(alloc, number)?;
+    let writes = match device.write(UnitId(0), b"0123456789abcdef") {
+        Ok(()) => [false, device.patch(UnitId(0), 15, b"-").is_err()],
+        Err(Failed) => [true, device.patch(UnitId(0), 15, b"-").is_err()],
+    };
+    Ok([reads, writes, flushes])
+}
+
+#[test]
+fn fails_at_the_number_of_its_plan_alone(rt: HostRuntime) -> Result<(), Fail> {
+    for (number, want) in [(1, [true, false]), (2, [false, true]), (3, [false, false])] {
+        assert_eq!(rt; failed(rt.alloc(), number)?, [want; 3], "call {number}");
+    }
     Ok(())
 }
 

@@ -1,6 +1,6 @@
 use crate::{
     FrameFault, GroupFault, Head, check_group, decode_entry, decode_group_head, decode_head,
-    encode_ack, encode_entry, encode_group_head, encode_unit,
+    encode_ack, encode_entry, encode_group_head, encode_unit, frame_size, read_head,
 };
 use std::test::Fail;
 use xv_base::{Layout, UnitHead, UnitId};
@@ -81,6 +81,16 @@ fn reads_what_was_spelled(rt: HostRuntime) -> Result<(), Fail> {
         second.map(|entry| (entry.head, entry.zero)),
         Ok((SECOND, true))
     );
+    Ok(())
+}
+
+#[test]
+fn tells_the_size_of_a_frame_by_its_head(rt: HostRuntime) -> Result<(), Fail> {
+    let layout = Layout::new(3, 16, &[])?;
+    assert_eq!(rt; read_head(&ACK, &layout), Ok(Head::Ack(258)));
+    assert_eq!(rt; frame_size(&ACK, &layout), Some(24));
+    assert_eq!(rt; frame_size(&FRAME[..24], &layout), Some(40));
+    assert_eq!(rt; frame_size(&GROUP[..24], &layout), Some(80));
     Ok(())
 }
 
