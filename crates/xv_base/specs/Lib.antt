@@ -5,3 +5,5 @@ pub mod Pattern
 pub mod Padded
 pub mod Status
 pub mod Hex
+pub mod Initial
+pub mod Legal

@@ -6,6 +6,8 @@ use Rattle.xv_base.specs.declared.limits.Fault.TheVariants.{SourceRead, SourceWr
 pub use Rattle.xv_base.specs.Units.{Shape, units, size, is_page, disk_of, block_of, unit_of_block, blocks}
 pub use Rattle.xv_base.specs.Layout.{IsGood}
 pub use Rattle.xv_base.specs.Pattern.{repeated}
+pub use Rattle.xv_base.specs.Initial.{no_init}
+pub use Rattle.xv_base.specs.Legal.{IsLegal}
 pub use Rattle.xv_base.specs.declared.unit.UnitId.{UnitId}
 pub use Rattle.xv_base.specs.declared.unit.GuestId.{GuestId}
 pub use Rattle.xv_base.specs.declared.pattern.UnitOp.{UnitOp}
@@ -44,10 +46,6 @@ no_operation = record { unit = record { 0 = 0 }; offset = 0; len = 0; write = No
 abbrev pub operation : Job → ℕ → ℕ → UnitOp
 operation job guest k = get_or (trace job guest) k no_operation
 
--- what stands for an initial content that is not there
-abbrev pub no_init : Init
-no_init = record { unit = record { 0 = 0 }; pattern = [] }
-
 -- a planned fault has a number from 1, and a stream of the job
 abbrev pub is_good_fault : ℕ → Fault → Bool
 is_good_fault streams (SourceRead k) = nat_lt 0 k
@@ -59,15 +57,6 @@ is_good_fault streams (Put s k) = nat_lt 0 k && nat_lt s streams
 is_good_fault streams (Take s k) = nat_lt 0 k && nat_lt s streams
 is_good_fault streams (AckPut k) = nat_lt 0 k
 is_good_fault streams (AckTake k) = nat_lt 0 k
-
--- where an operation may act: a part of one unit, a write of a block being of the whole block, and a read of at most
--- 64 bytes
-pub record IsLegal (shape : Shape) (op : UnitOp) : Type 0 where
-  pub unit_is : op.unit.0 < units shape
-  pub some_bytes : 0 < op.len
-  pub in_unit : op.offset + op.len ≤ size shape op.unit.0
-  pub whole_block : is_some op.write ≡ true → is_page shape op.unit.0 ≡ false → (op.offset ≡ 0) × (op.len ≡ size shape op.unit.0)
-  pub short_read : is_some op.write ≡ false → op.len ≤ 64
 
 -- the limits of every job
 pub record IsGoodJob (job : Job) : Type 0 where
