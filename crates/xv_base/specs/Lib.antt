@@ -5,3 +5,4 @@ pub mod Pattern
 pub mod Padded
 pub mod Status
 pub mod Hex
+pub mod Calls
