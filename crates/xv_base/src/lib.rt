@@ -1,12 +1,12 @@
 // The plain data that every crate of the repository speaks of: units and their layout, patterns,
 // operations, events and their answers, faults, limits, statuses, lines of text.
 //
-// Contracts see a `Layout` as its shape, and a `Pattern` and a `LineBuf` as their bytes; every other type here
-// is seen as its fields; `PlannedCalls` as a plan with what it counts. All but that one are plain values that can be copied,
-// and take no memory. The layer above may rely on
-// this: a shape that a layout has is good (each accessor says so), and of every good shape the laws hold. Its
-// numbers are within the limits; its units, the pages and then the blocks of each disk, lie one after another
-// over all bytes; each unit past the pages is one block of one disk; and some unit has the greatest size.
+// Contracts see a `Layout` as its shape, a `Pattern` and a `LineBuf` as their bytes, and `PlannedCalls` as a plan with
+// what it counts; every other type here is seen as its fields. All but `PlannedCalls` are plain values that can be
+// copied, and take no memory. The layer above may rely on this: a shape that a layout has is good (each accessor says
+// so), and of every good shape the laws hold. Its numbers are within the limits; its units, the pages and then the
+// blocks of each disk, lie one after another over all bytes; each unit past the pages is one block of one disk; and
+// some unit has the greatest size.
 #![tactic(auto)]
 
 mod answer;
