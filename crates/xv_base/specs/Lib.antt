@@ -7,3 +7,4 @@ pub mod Status
 pub mod Hex
 pub mod Initial
 pub mod Legal
+pub mod Calls
