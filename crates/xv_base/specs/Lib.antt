@@ -5,4 +5,6 @@ pub mod Pattern
 pub mod Padded
 pub mod Status
 pub mod Hex
+pub mod Initial
+pub mod Legal
 pub mod Calls
