@@ -1,6 +1,6 @@
 use Rattle.std.proofs.Common.{sym, ◌∙◌}
 use Rattle.xv_hold.proofs.Walk.{leads-within, goes-on}
-use Rattle.xv_hold.proofs.hold.link_below.Goals as goal
+use Rattle.xv_hold.proofs.hold.walk_below.Goals as goal
 
 pub bounds-slots-next : goal.bounds-slots-next
 bounds-slots-next c = leads-within _ _ _ _ _ _ c.requires c.loop-at.invariant c.in-Some.is

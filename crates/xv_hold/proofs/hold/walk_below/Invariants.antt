@@ -1,6 +1,6 @@
 use Rattle.xv_hold.proofs.Walk.{IsAt, left}
 use Rattle.xv_hold.specs.Arrival.{in_slot}
-use Rattle.xv_hold.proofs.hold.link_below.Given as goal
+use Rattle.xv_hold.proofs.hold.walk_below.Given as goal
 
 abbrev pub invariant-loop-at : goal.invariant-loop-at
 invariant-loop-at l = IsAt l.slots l.links l.head.unit.0 l.head.version l.at
