@@ -1,4 +1,5 @@
 pub mod Units
+pub mod Message
 pub mod Layout
 pub mod Laws
 pub mod Pattern

@@ -1,17 +1,10 @@
 -- What a frame is, and its one spelling.
 use Rattle.std.specs.Prelude.{◌≡◌, ℕ, ◌^◌, ◌<◌, ◌≤◌, ⊤, List, [], ◌∷◌, ◌++◌, length, replicate, if◌then◌else◌}
 use Rattle.std.specs.List.{flat_map}
+pub use Rattle.xv_base.specs.Message.{Message, message}
 use Rattle.xv_base.specs.declared.operation.UnitHead.{UnitHead}
 use Rattle.xv_base.specs.Units.{Shape, units, size}
 use Rattle.xv_frame.specs.Fields.{short_bytes, word_bytes, long_bytes, all_zero}
-
--- a message: of which unit, its version, when it was made, and the unit's content then
-pub record Message : Type 0 where
-  pub head : UnitHead
-  pub content : List ℕ
-
-abbrev pub message : UnitHead → List ℕ → Message
-message h c = record { head = h; content = c }
 
 -- one message by itself, a count of messages that were written, or some messages together
 pub data Frame : Type 0 where
