@@ -19,3 +19,4 @@ pub use encode::{encode_ack, encode_entry, encode_group_head, encode_unit};
 pub use groups::{Entry, GroupFault, GroupHead, check_group, decode_entry, decode_group_head};
 pub use heads::{FrameFault, Head, decode_head, read_head};
 pub use size::frame_size;
+pub use xv_base::UnitHead;
