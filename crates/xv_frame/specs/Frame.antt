@@ -4,6 +4,7 @@ use Rattle.std.specs.List.{flat_map}
 pub use Rattle.xv_base.specs.Message.{Message, message}
 use Rattle.xv_base.specs.declared.operation.UnitHead.{UnitHead}
 use Rattle.xv_base.specs.Units.{Shape, units, size}
+use Rattle.xv_frame.specs.declared.codes.TheConstants.{MESSAGE_KIND, ACK_KIND, CONTENT_MARK, ZERO_MARK}
 use Rattle.xv_frame.specs.Fields.{short_bytes, word_bytes, long_bytes, all_zero}
 
 -- one message by itself, a count of messages that were written, or some messages together
@@ -37,22 +38,22 @@ IsFrame s (GroupFrame messages) = IsGroup s messages
 
 -- before a content: format, kind, zeros, unit, version, length and the number `at`
 abbrev pub unit_head : UnitHead → ℕ → List ℕ
-unit_head h count = 1 ∷ 1 ∷ 0 ∷ 0 ∷ (word_bytes h.unit.0 ++ (word_bytes h.version ++ (word_bytes count ++ long_bytes h.at)))
+unit_head h count = 1 ∷ MESSAGE_KIND ∷ 0 ∷ 0 ∷ (word_bytes h.unit.0 ++ (word_bytes h.version ++ (word_bytes count ++ long_bytes h.at)))
 
 -- an acknowledgement: format, kind and zeros, the count between zeros
 abbrev pub ack : ℕ → List ℕ
-ack count = 1 ∷ 2 ∷ 0 ∷ 0 ∷ 0 ∷ 0 ∷ 0 ∷ 0 ∷ (word_bytes count ++ replicate 12 0)
+ack count = 1 ∷ ACK_KIND ∷ 0 ∷ 0 ∷ 0 ∷ 0 ∷ 0 ∷ 0 ∷ (word_bytes count ++ replicate 12 0)
 
 -- before the entries of a group: format, kind, how many entries, how many bytes they have, and zeros
 abbrev pub group_head : ℕ → ℕ → List ℕ
-group_head count bytes = 2 ∷ 1 ∷ (short_bytes count ++ (word_bytes bytes ++ replicate 16 0))
+group_head count bytes = 2 ∷ MESSAGE_KIND ∷ (short_bytes count ++ (word_bytes bytes ++ replicate 16 0))
 
 -- one message of a group: its numbers, the mark and zeros, and its content where that is not all zero
 abbrev pub entry_head : UnitHead → ℕ → List ℕ
 entry_head h mark = word_bytes h.unit.0 ++ (word_bytes h.version ++ (long_bytes h.at ++ (mark ∷ 0 ∷ 0 ∷ 0 ∷ [])))
 
 abbrev pub entry : Message → List ℕ
-entry m = if all_zero m.content then entry_head m.head 1 else entry_head m.head 0 ++ m.content
+entry m = if all_zero m.content then entry_head m.head ZERO_MARK else entry_head m.head CONTENT_MARK ++ m.content
 
 abbrev pub entries : List Message → List ℕ
 entries messages = flat_map entry messages

@@ -1,4 +1,4 @@
--- The 24 bytes that a frame of one message, or an acknowledgement, begins with.
+-- The bytes of a head, that a frame of one message, or an acknowledgement, begins with.
 use Rattle.std.specs.Prelude.{ℕ, ◌^◌, ◌<◌, ◌≤◌, ⊤, List}
 use Rattle.xv_base.specs.Units.{Shape, units, size}
 use Rattle.xv_frame.specs.declared.heads.Head.{Head}
