@@ -1,5 +1,4 @@
 pub mod Units
-pub mod Message
 pub mod Layout
 pub mod Laws
 pub mod Pattern
