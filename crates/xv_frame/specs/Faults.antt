@@ -1,5 +1,6 @@
 -- What is wrong with bytes that are to be a frame: the first fault in the order of their fields.
 use Rattle.std.specs.Prelude.{ℕ, zero, suc, ◌+◌, ◌-◌, ◌==◌, nat_lt, ◌&&◌, ◌||◌, not, List, length, drop, Option, Some, None, Result, Ok, Err, if◌then◌else◌}
+use Rattle.xv_base.specs.declared.limits.TheConstants.{MOST_CREDIT, MOST_GROUP, SINGLE_FORMAT, GROUP_FORMAT}
 use Rattle.xv_base.specs.Units.{Shape, units, size}
 use Rattle.xv_frame.specs.declared.codes.TheConstants.{HEAD_SIZE, ENTRY_HEAD_SIZE, MESSAGE_KIND, ACK_KIND, ZERO_MARK}
 use Rattle.xv_frame.specs.declared.heads.Head.{Head}
@@ -22,11 +23,11 @@ unit_fault s head =
 abbrev pub ack_fault : List ℕ → Option FrameFault
 ack_fault head =
     if not (zero_at head 2 6 && zero_at head 12 12) then Some fault.NotZero
-    else (if (word_at head 8 == 0) || nat_lt 1024 (word_at head 8) then Some fault.BadCount else None)
+    else (if (word_at head 8 == 0) || nat_lt MOST_CREDIT (word_at head 8) then Some fault.BadCount else None)
 
 abbrev pub head_fault : Shape → List ℕ → Option FrameFault
 head_fault s head =
-    if not (byte_at head 0 == 1) then Some fault.BadFormat
+    if not (byte_at head 0 == SINGLE_FORMAT) then Some fault.BadFormat
     else (if byte_at head 1 == MESSAGE_KIND then unit_fault s head
     else (if byte_at head 1 == ACK_KIND then ack_fault head else Some fault.BadKind))
 
@@ -42,9 +43,9 @@ read_head s head = head_or (head_fault s head) (if byte_at head 1 == ACK_KIND th
 abbrev pub group_head_fault : List ℕ → Option GroupFault
 group_head_fault bytes =
     if nat_lt (length bytes) HEAD_SIZE then Some group.Short
-    else (if not (byte_at bytes 0 == 2) then Some group.BadFormat
+    else (if not (byte_at bytes 0 == GROUP_FORMAT) then Some group.BadFormat
     else (if not (byte_at bytes 1 == MESSAGE_KIND) then Some group.BadKind
-    else (if (short_at bytes 2 == 0) || nat_lt 16 (short_at bytes 2) then Some group.BadCount
+    else (if (short_at bytes 2 == 0) || nat_lt MOST_GROUP (short_at bytes 2) then Some group.BadCount
     else (if not (zero_at bytes 8 16) then Some group.NotZero else None))))
 
 -- of the entry that bytes begin with, and of its content of that size

@@ -3,6 +3,7 @@ use Rattle.std.specs.Prelude.{◌≡◌, ℕ, ◌^◌, ◌<◌, ◌≤◌, ⊤, 
 use Rattle.std.specs.List.{flat_map}
 pub use Rattle.xv_base.specs.Message.{Message, message}
 use Rattle.xv_base.specs.declared.operation.UnitHead.{UnitHead}
+use Rattle.xv_base.specs.declared.limits.TheConstants.{MOST_CREDIT, MOST_GROUP, SINGLE_FORMAT, GROUP_FORMAT}
 use Rattle.xv_base.specs.Units.{Shape, units, size}
 use Rattle.xv_frame.specs.declared.codes.TheConstants.{MESSAGE_KIND, ACK_KIND, CONTENT_MARK, ZERO_MARK}
 use Rattle.xv_frame.specs.Fields.{short_bytes, word_bytes, long_bytes, all_zero}
@@ -28,25 +29,25 @@ pub record IsMessage (s : Shape) (m : Message) : Type 0 where
 
 pub record IsGroup (s : Shape) (messages : List Message) : Type 0 where
   pub some : 1 ≤ length messages
-  pub few : length messages ≤ 16
+  pub few : length messages ≤ MOST_GROUP
   pub each : Each (IsMessage s) messages
 
 abbrev pub IsFrame : Shape → Frame → Type 0
 IsFrame s (UnitFrame m) = IsMessage s m
-IsFrame s (AckFrame count) = (1 ≤ count) × (count ≤ 1024)
+IsFrame s (AckFrame count) = (1 ≤ count) × (count ≤ MOST_CREDIT)
 IsFrame s (GroupFrame messages) = IsGroup s messages
 
 -- before a content: format, kind, zeros, unit, version, length and the number `at`
 abbrev pub unit_head : UnitHead → ℕ → List ℕ
-unit_head h count = 1 ∷ MESSAGE_KIND ∷ 0 ∷ 0 ∷ (word_bytes h.unit.0 ++ (word_bytes h.version ++ (word_bytes count ++ long_bytes h.at)))
+unit_head h count = SINGLE_FORMAT ∷ MESSAGE_KIND ∷ 0 ∷ 0 ∷ (word_bytes h.unit.0 ++ (word_bytes h.version ++ (word_bytes count ++ long_bytes h.at)))
 
 -- an acknowledgement: format, kind and zeros, the count between zeros
 abbrev pub ack : ℕ → List ℕ
-ack count = 1 ∷ ACK_KIND ∷ 0 ∷ 0 ∷ 0 ∷ 0 ∷ 0 ∷ 0 ∷ (word_bytes count ++ replicate 12 0)
+ack count = SINGLE_FORMAT ∷ ACK_KIND ∷ 0 ∷ 0 ∷ 0 ∷ 0 ∷ 0 ∷ 0 ∷ (word_bytes count ++ replicate 12 0)
 
 -- before the entries of a group: format, kind, how many entries, how many bytes they have, and zeros
 abbrev pub group_head : ℕ → ℕ → List ℕ
-group_head count bytes = 2 ∷ MESSAGE_KIND ∷ (short_bytes count ++ (word_bytes bytes ++ replicate 16 0))
+group_head count bytes = GROUP_FORMAT ∷ MESSAGE_KIND ∷ (short_bytes count ++ (word_bytes bytes ++ replicate 16 0))
 
 -- one message of a group: its numbers, the mark and zeros, and its content where that is not all zero
 abbrev pub entry_head : UnitHead → ℕ → List ℕ

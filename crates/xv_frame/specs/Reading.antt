@@ -1,6 +1,7 @@
 -- The frame that bytes begin with, if they begin with one.
 use Rattle.std.specs.Prelude.{ℕ, zero, suc, ◌+◌, ◌==◌, Bool, List, [], ◌∷◌, length, take, drop, replicate, if◌then◌else◌}
 use Rattle.xv_base.specs.declared.operation.UnitHead.{UnitHead}
+use Rattle.xv_base.specs.declared.limits.TheConstants.{GROUP_FORMAT}
 use Rattle.xv_base.specs.Units.{Shape, size}
 use Rattle.xv_frame.specs.declared.codes.TheConstants.{HEAD_SIZE, ENTRY_HEAD_SIZE, ACK_KIND, ZERO_MARK}
 use Rattle.xv_frame.specs.Fields.{byte_at, short_at, word_at, long_at}
@@ -37,7 +38,7 @@ front_group s bytes = front_entries s (short_at bytes 2) (drop HEAD_SIZE bytes)
 
 abbrev pub front_frame : Shape → List ℕ → Frame
 front_frame s bytes =
-    if byte_at bytes 0 == 2 then GroupFrame (front_group s bytes)
+    if byte_at bytes 0 == GROUP_FORMAT then GroupFrame (front_group s bytes)
     else (if byte_at bytes 1 == ACK_KIND then AckFrame (word_at bytes 8) else UnitFrame (front_message s bytes))
 
 -- the frames that bytes spell one after another, at most so many

@@ -1,5 +1,6 @@
 -- How many bytes the frame has that a head begins.
 use Rattle.std.specs.Prelude.{ℕ, ◌+◌, ◌==◌, List, Option, Some, None, Result, Ok, Err, if◌then◌else◌}
+use Rattle.xv_base.specs.declared.limits.TheConstants.{GROUP_FORMAT}
 use Rattle.xv_base.specs.Units.{Shape, size}
 use Rattle.xv_frame.specs.declared.codes.TheConstants.{HEAD_SIZE}
 use Rattle.xv_frame.specs.declared.heads.Head.{Head}
@@ -19,4 +20,4 @@ size_of_group bytes (Some f) = None
 size_of_group bytes None = Some (HEAD_SIZE + bytes)
 
 abbrev pub frame_size : Shape → List ℕ → Option ℕ
-frame_size s head = if byte_at head 0 == 2 then size_of_group (word_at head 4) (group_head_fault head) else size_of_head s (read_head s head)
+frame_size s head = if byte_at head 0 == GROUP_FORMAT then size_of_group (word_at head 4) (group_head_fault head) else size_of_head s (read_head s head)

@@ -6,7 +6,7 @@ ghost use Rattle.xv_frame.specs.Frame.{UnitFrame, message, spelled, ack, group_h
 
 use crate::codes::{ACK_KIND, CONTENT_MARK, ENTRY_HEAD_SIZE, HEAD_SIZE, MESSAGE_KIND, ZERO_MARK};
 use crate::fields::{all_zero, put};
-use xv_base::{Layout, UnitHead};
+use xv_base::{GROUP_FORMAT, Layout, MOST_CREDIT, MOST_GROUP, SINGLE_FORMAT, UnitHead};
 
 /// Writes the frame of a message to the start of `into`, and answers how many bytes it has: the head and the
 /// unit's content.
@@ -22,19 +22,19 @@ pub fn encode_unit(layout: &Layout, head: UnitHead, bytes: &[u8], into: &mut [u8
     put(into, at, bytes)
 }
 
-/// Writes an acknowledgement of `count` messages, from 1 to 1,024.
+/// Writes an acknowledgement of `count` messages, from 1 to `MOST_CREDIT`.
 pub fn encode_ack(count: u32, into: &mut [u8; HEAD_SIZE])
     requires some { 1 ≤ count }
-    requires few { count ≤ 1024 }
+    requires few { count ≤ MOST_CREDIT }
     ensures { into.new ≡ ack count }
 {
     put_ack(count, into);
 }
 
-/// Writes the head of a group of `count` messages, from 1 to 16, whose entries have so many bytes.
+/// Writes the head of a group of `count` messages, from 1 to `MOST_GROUP`, whose entries have so many bytes.
 pub fn encode_group_head(count: u32, bytes: u32, into: &mut [u8; HEAD_SIZE])
     requires some { 1 ≤ count }
-    requires few { count ≤ 16 }
+    requires few { count ≤ MOST_GROUP }
     ensures { into.new ≡ group_head count bytes }
 {
     put_group_head(count as u16, bytes, into);
@@ -64,7 +64,7 @@ fn put_unit_head(head: UnitHead, size: u32, into: &mut [u8]) -> usize
     ensures end { result ≡ HEAD_SIZE }
     ensures written { into.new ≡ unit_head head size ++ drop HEAD_SIZE into.old }
 {
-    let mut at = put(into, 0, &[1, MESSAGE_KIND, 0, 0]);
+    let mut at = put(into, 0, &[SINGLE_FORMAT, MESSAGE_KIND, 0, 0]);
     at = put(into, at, &head.unit.0.to_be_bytes());
     at = put(into, at, &head.version.to_be_bytes());
     at = put(into, at, &size.to_be_bytes());
@@ -75,7 +75,7 @@ fn put_ack(count: u32, into: &mut [u8])
     requires { length into.old ≡ HEAD_SIZE }
     ensures { into.new ≡ ack count }
 {
-    let mut at = put(into, 0, &[1, ACK_KIND, 0, 0, 0, 0, 0, 0]);
+    let mut at = put(into, 0, &[SINGLE_FORMAT, ACK_KIND, 0, 0, 0, 0, 0, 0]);
     at = put(into, at, &count.to_be_bytes());
     put(into, at, &[0; 12]);
 }
@@ -84,7 +84,7 @@ fn put_group_head(count: u16, bytes: u32, into: &mut [u8])
     requires { length into.old ≡ HEAD_SIZE }
     ensures { into.new ≡ group_head count bytes }
 {
-    let mut at = put(into, 0, &[2, MESSAGE_KIND]);
+    let mut at = put(into, 0, &[GROUP_FORMAT, MESSAGE_KIND]);
     at = put(into, at, &count.to_be_bytes());
     at = put(into, at, &bytes.to_be_bytes());
     put(into, at, &[0; 16]);

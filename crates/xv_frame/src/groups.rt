@@ -9,18 +9,18 @@ ghost use Rattle.xv_frame.specs.Frame.{IsGroup, GroupFrame, spelled};
 
 use crate::codes::{ENTRY_HEAD_SIZE, HEAD_SIZE, MESSAGE_KIND, ZERO_MARK};
 use crate::fields::{is_zero, long_at, short_at, word_at};
-use xv_base::{Layout, UnitHead, UnitId};
+use xv_base::{GROUP_FORMAT, Layout, MOST_GROUP, UnitHead, UnitId};
 
 /// Why bytes are no group, the first of these as one reads on.
 #[derive(Clone, Copy, Debug, PartialEq, Eq)]
 pub enum GroupFault {
     /// The head, an entry or its content is not whole.
     Short,
-    /// The format is not 2.
+    /// The format is not that of groups.
     BadFormat,
     /// The kind is not that of messages.
     BadKind,
-    /// The number of entries is not from 1 to 16.
+    /// The number of entries is 0, or above `MOST_GROUP`.
     BadCount,
     /// A byte that is kept for later is not zero.
     NotZero,
@@ -84,14 +84,14 @@ pub fn decode_group_head(bytes: &[u8]) -> Result<GroupHead, GroupFault>
     if bytes.len() < HEAD_SIZE {
         return Err(GroupFault::Short);
     }
-    if bytes[0] != 2 {
+    if bytes[0] != GROUP_FORMAT {
         return Err(GroupFault::BadFormat);
     }
     if bytes[1] != MESSAGE_KIND {
         return Err(GroupFault::BadKind);
     }
     let count = short_at(bytes, 2);
-    if count == 0 || count > 16 {
+    if count == 0 || count > u16::from(MOST_GROUP) {
         return Err(GroupFault::BadCount);
     }
     if !is_zero(bytes, 8, 16) {

@@ -8,7 +8,7 @@ ghost use Rattle.xv_frame.specs.Heads.{IsHead, IsOfLayout, head_spelled};
 
 use crate::codes::{ACK_KIND, HEAD_SIZE, MESSAGE_KIND};
 use crate::fields::{is_zero, long_at, word_at};
-use xv_base::{Layout, UnitHead, UnitId};
+use xv_base::{Layout, MOST_CREDIT, SINGLE_FORMAT, UnitHead, UnitId};
 
 /// The head of a frame: of a message, or an acknowledgement of so many messages.
 #[derive(Clone, Copy, Debug, PartialEq, Eq)]
@@ -20,7 +20,7 @@ pub enum Head {
 /// Why bytes are no head, the first of these in this order.
 #[derive(Clone, Copy, Debug, PartialEq, Eq)]
 pub enum FrameFault {
-    /// The format is not 1.
+    /// The format is not that of single messages.
     BadFormat,
     /// The kind is neither a message nor an acknowledgement.
     BadKind,
@@ -32,7 +32,7 @@ pub enum FrameFault {
     BadVersion,
     /// The length is not the unit's size.
     BadLength,
-    /// The count is 0, or above 1,024.
+    /// The count is 0, or above `MOST_CREDIT`.
     BadCount,
 }
 
@@ -52,7 +52,7 @@ pub fn read_head(head: &[u8], layout: &Layout) -> Result<Head, FrameFault>
     ensures exactly { result ≡ read_head layout.now head.now }
     ensures unit_in { IfOk result (λ it. IsOfLayout layout.now it) }
 {
-    if head[0] != 1 {
+    if head[0] != SINGLE_FORMAT {
         return Err(FrameFault::BadFormat);
     }
     match head[1] {
@@ -102,7 +102,7 @@ fn ack_fault(head: &[u8]) -> Option<FrameFault>
         return Some(FrameFault::NotZero);
     }
     let count = word_at(head, 8);
-    if count == 0 || count > 1024 {
+    if count == 0 || count > MOST_CREDIT {
         return Some(FrameFault::BadCount);
     }
     None
