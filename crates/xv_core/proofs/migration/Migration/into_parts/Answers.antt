@@ -1,6 +1,6 @@
 use Rattle.std.proofs.Common.{◌∙◌, map, ap}
 use Rattle.xv_core.specs.Seen.{Seen, OnWire}
-use Rattle.xv_core.proofs.Told.{told-wires}
+use Rattle.xv_core.proofs.Totals.Told.{told-wires}
 use Rattle.xv_core.proofs.migration.Migration.into_parts.Goals as goal
 
 pub returns-clause-wires : goal.returns-clause-wires

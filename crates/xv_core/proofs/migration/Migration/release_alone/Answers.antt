@@ -1,8 +1,8 @@
 use Rattle.std.proofs.Common.{sym, arith, refl}
 use Rattle.std.proofs.lemmas.List.{append-nil}
-use Rattle.xv_core.proofs.CountsRoom.{source-countable}
-use Rattle.xv_core.proofs.OperationSteps.{rooms, rooms-stay, finishes}
-use Rattle.xv_core.proofs.ReleaseTurns.{has-more, ready, release-alone-answers}
+use Rattle.xv_core.proofs.Counting.Room.{source-countable}
+use Rattle.xv_core.proofs.GuestEvents.OperationSteps.{rooms, rooms-stay, finishes}
+use Rattle.xv_core.proofs.GuestEvents.ReleaseTurns.{has-more, ready, release-alone-answers}
 use Rattle.xv_core.proofs.migration.Migration.release_alone.Goals as goal
 
 pub next_operation-op-requires : goal.next_operation-op-requires

@@ -1,9 +1,9 @@
 use Rattle.std.proofs.Common.{sym, arith, refl}
 use Rattle.std.proofs.lemmas.List.{append-nil}
-use Rattle.xv_core.proofs.ConditionsCounts.{few-versions}
-use Rattle.xv_core.proofs.CountsRoom.{source-countable}
-use Rattle.xv_core.proofs.OperationSteps.{rooms, rooms-stay, finishes}
-use Rattle.xv_core.proofs.ReleaseTurns.{has-more, ready, release-running-answers}
+use Rattle.xv_core.proofs.Keeping.Counts.{few-versions}
+use Rattle.xv_core.proofs.Counting.Room.{source-countable}
+use Rattle.xv_core.proofs.GuestEvents.OperationSteps.{rooms, rooms-stay, finishes}
+use Rattle.xv_core.proofs.GuestEvents.ReleaseTurns.{has-more, ready, release-running-answers}
 use Rattle.xv_core.proofs.migration.Migration.release_running.Goals as goal
 
 pub next_operation-op-requires : goal.next_operation-op-requires
