@@ -1,4 +1,5 @@
 -- Each event is a step as contracts see it.
+pub mod Waited
 pub mod Stays
 pub mod Steps
 pub mod Waits

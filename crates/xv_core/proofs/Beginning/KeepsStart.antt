@@ -1,12 +1,11 @@
 -- Fresh halves, empty streams and an empty way back are a running migration.
-use Rattle.std.specs.Prelude.{◌≡◌, ℕ, true, List, [], ◌∷◌, length, map, replicate, Option, Some, None, IfSome, is_some, unwrap_or}
+use Rattle.std.specs.Prelude.{◌≡◌, ℕ, true, List, [], ◌∷◌, length, replicate, Option, Some, None, IfSome, is_some, unwrap_or}
 use Rattle.std.proofs.Common.{refl, ap, sym, subst, ◌∙◌}
 use Rattle.std.proofs.lemmas.Bool.{and_parts}
 use Rattle.xv_base.specs.declared.event.Phase.TheVariants.{Running}
 use Rattle.xv_device.specs.Told.{Told}
-use Rattle.xv_wire.specs.Told.{Told as WireTold}
 use Rattle.xv_frame.specs.Frame.{Each}
-use Rattle.xv_streams.specs.Streamed.{LaneSeen, fresh_lane}
+use Rattle.xv_streams.specs.Streamed.{LaneSeen}
 use Rattle.xv_streams.specs.Fronts.{heads_on, contents_on}
 use Rattle.xv_model.specs.Job.{Job, IsGoodJob, unit_count}
 use Rattle.xv_model.specs.Guest.{reads}
@@ -34,10 +33,6 @@ no-heads (l ∷ lanes) none = rw (none.0, ← no-heads lanes none.1) refl
 no-contents : (lanes : List LaneSeen) → AreEmpty lanes → replicate (length lanes) [] ≡ contents_on lanes
 no-contents [] none = refl
 no-contents (l ∷ lanes) none = rw (none.0, ← no-contents lanes none.1) refl
-
-pub fresh-lanes : {W : Type 0} (told : W → WireTold) (faults : W → ℕ) (wires : List W) → AreEmpty (map (λ w. fresh_lane (told w) (faults w)) wires)
-fresh-lanes told faults [] = tt
-fresh-lanes told faults (w ∷ wires) = (refl, fresh-lanes told faults wires)
 
 -- what is told
 told-is : {A : Type 0} (o : Option A) (other x : A) → is_some o ≡ true → IfSome o (λ y. y ≡ x) → unwrap_or o other ≡ x

@@ -120,14 +120,7 @@ happens s e a half phase stun r carried fit goes answers is =
       carried = carried;
     }
 
--- An answer of the machine that says that a call failed, and one that does not.
-failed-flagged : (a : Turn) → is_failed a ≡ true → is_flagged a ≡ true
-failed-flagged (Done n) e = absurd (cc)
-failed-flagged Queued e = absurd (cc)
-failed-flagged Faulted e = refl
-failed-flagged (Waits why) e = absurd (cc)
-failed-flagged (Broke cause) e = refl
-
+-- An answer of the machine that is not flagged says that no call failed.
 pub unflagged-unfailed : (a : Turn) → is_flagged a ≡ false → is_failed a ≡ false
 unflagged-unfailed (Done n) e = refl
 unflagged-unfailed Queued e = refl

@@ -31,7 +31,7 @@ use Rattle.xv_core.specs.Seen.{Seen, OnWire, view_of}
 use Rattle.xv_core.specs.State.{State, view, seen_of, contents_of, IsRunning}
 use Rattle.xv_core.specs.Kept.{IsState}
 use Rattle.xv_core.specs.Stepped.{IsStep}
-use Rattle.xv_core.specs.Waiting.{Waited, IsStill, IsStillBack, AreStill}
+use Rattle.xv_core.proofs.Stepped.Waited.{Waited, IsStill, IsStillBack, AreStill}
 use Rattle.xv_core.proofs.Keeping.Joined.{shows, is_source_of, is_dest_of, has_dest_bytes}
 use Rattle.xv_core.proofs.Counting.Room.{wire-countable}
 use Rattle.xv_core.proofs.Counting.Wires.{wire-is}

@@ -17,7 +17,7 @@ use Rattle.xv_source.specs.Half.{Source}
 use Rattle.xv_core.specs.Seen.{Seen}
 use Rattle.xv_core.specs.State.{State, view, seen_of}
 use Rattle.xv_core.specs.Kept.{IsState, HasRooms}
-use Rattle.xv_core.specs.Waiting.{Waited}
+use Rattle.xv_core.proofs.Stepped.Waited.{Waited}
 use Rattle.xv_core.specs.Stepped.{IsStep}
 use Rattle.xv_core.specs.Settling.{is_failed}
 use Rattle.xv_core.proofs.Keeping.Counts.{journal-has-room}

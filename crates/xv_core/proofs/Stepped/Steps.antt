@@ -19,7 +19,7 @@ use Rattle.xv_core.specs.State.{State, view, seen_of, on_source, on_dest, on_wir
 use Rattle.xv_core.specs.Happening.{Happened, OneCall}
 use Rattle.xv_core.specs.Rising.{BothTold, PutsRise, MeetsRise, Rises, TakesRise}
 use Rattle.xv_core.specs.Kept.{IsState}
-use Rattle.xv_core.specs.Waiting.{IsStill, IsStillBack, AreStill, Waited}
+use Rattle.xv_core.proofs.Stepped.Waited.{IsStill, IsStillBack, AreStill, Waited}
 use Rattle.xv_core.specs.Stepped.{IsStep, IsAsBefore, ReadsMore, told_by}
 use Rattle.xv_core.proofs.Stepped.Stays.{all-carried}
 use Rattle.xv_core.proofs.Counting.Rises.{rises, both-same}

@@ -16,7 +16,7 @@ use Rattle.xv_core.specs.State.{State, IsRunning, IsCarriedOver, ArePartsOf, vie
 use Rattle.xv_core.specs.Plans.{ArePieces, IsPieces, frame_length, FollowsPlans, FollowsIf, takes_met}
 use Rattle.xv_core.specs.Counting.{CountsFit, FlagsAreCaused, AreCaused}
 use Rattle.xv_core.specs.Kept.{IsState}
-use Rattle.xv_core.specs.Waiting.{IsStill, IsStillBack, AreStill, Waited}
+use Rattle.xv_core.proofs.Stepped.Waited.{IsStill, IsStillBack, AreStill, Waited}
 use Rattle.xv_model.specs.Step.{Put, Take, AckPut, AckTake}
 use Rattle.xv_model.specs.Outside.{calls_of_kind}
 use Rattle.xv_core.proofs.Counting.Wires.{wire-is}
