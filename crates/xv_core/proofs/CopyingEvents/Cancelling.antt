@@ -82,7 +82,7 @@ steps-cancelled s t m at k sees is come live by =
     subst (λ (x : Seen). IsStep x Cancel (note 0 0) (seen_of t)) sees (seen-steps s t Cancel (note 0 0) k (cancels s t at k is come live by))
 
 -- there was room for its entry
-pub room-to-cancel : (s : State) (at capacity : ℕ) → IsState s → at ≡ length s.history → true ≡ reaches (job_of s.job).config.cancel at → true ≡ is_live s.phase → bound (job_of s.job) ≤ capacity → length s.journal < capacity
+pub room-to-cancel : (s : State) (at capacity : ℕ) → IsState s → at ≡ length s.history → true ≡ reaches (job_of s.job).config.cancel at → true ≡ is_live s.phase → capacity ≡ bound (job_of s.job) → length s.journal < capacity
 room-to-cancel s at capacity k is come live room =
     let goes = due s at k.running is come live in
     let there : length s.journal + 1 ≤ bound (job_of s.job) = journal-has-room s Cancel false k.running refl (ap (λ (w : Option Why). is_wait (turn_by w false (job_of s.job) (view s) Cancel)) goes) in

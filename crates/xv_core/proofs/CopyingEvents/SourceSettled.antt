@@ -28,7 +28,7 @@ use Rattle.xv_core.proofs.Stepped.Steps.{seen-steps, wait-seen}
 use Rattle.xv_core.proofs.Stepped.Waits.{waited-none}
 
 -- room for the entry
-pub room-for : (s : State) (e : Event) (a : Turn) (half : Source) (phase : Phase) (stun : Option ℕ) (capacity : ℕ) → IsState s → OfHalf s e a half phase stun → bound (job_of s.job) ≤ capacity → is_wait a ≡ false → length s.journal < capacity
+pub room-for : (s : State) (e : Event) (a : Turn) (half : Source) (phase : Phase) (stun : Option ℕ) (capacity : ℕ) → IsState s → OfHalf s e a half phase stun → capacity ≡ bound (job_of s.job) → is_wait a ≡ false → length s.journal < capacity
 room-for s e a half phase stun capacity k of room goes =
     let there : length s.journal + 1 ≤ bound (job_of s.job) = journal-has-room s e (is_flagged a) k.running of.fit (subst (λ (x : Turn). is_wait x ≡ false) of.steps.answers goes) in
     omega arith
@@ -119,10 +119,10 @@ steps-settled s t m e a b half k sees same of by =
     subst (λ (x : Seen). IsStep x e b (seen_of t)) sees (subst (λ (x : Turn). IsStep (seen_of s) e x (seen_of t)) (sym same) stepped)
 
 -- the rooms after it
-pub rooms-stay : (job : Written) (history_room journal_room more_room reads_room read_room : ℕ) → HasRooms job history_room journal_room reads_room read_room → journal_room ≤ more_room → HasRooms job history_room more_room reads_room read_room
+pub rooms-stay : (job : Written) (history_room journal_room more_room reads_room read_room : ℕ) → HasRooms job history_room journal_room reads_room read_room → more_room ≡ journal_room → HasRooms job history_room more_room reads_room read_room
 rooms-stay job history_room journal_room more_room reads_room read_room rooms more = record {
   history = rooms.history;
-  journal = omega (arith, rooms.journal);
+  journal = more ∙ rooms.journal;
   reads = rooms.reads;
   read = rooms.read;
 }

@@ -135,11 +135,11 @@ pub read-from : (was now seen bytes : List ℕ) (op : UnitOp) (a : Turn) → now
 read-from was now seen bytes op a e f = e ∙ ap (λ (xs : List ℕ). was ++ read_by op a xs) f
 
 -- memory for all is left
-pub rooms-stay : (job : Written) (h j r n h' j' r' n' : ℕ) → HasRooms job h j r n → h' ≡ h → j ≤ j' → r ≤ r' → n' ≡ n → HasRooms job h' j' r' n'
+pub rooms-stay : (job : Written) (h j r n h' j' r' n' : ℕ) → HasRooms job h j r n → h' ≡ h → j' ≡ j → r' ≡ r → n' ≡ n → HasRooms job h' j' r' n'
 rooms-stay job h j r n h' j' r' n' x e f g k = record {
   history = e ∙ x.history;
-  journal = omega (arith, x.journal);
-  reads = omega (arith, x.reads);
+  journal = f ∙ x.journal;
+  reads = g ∙ x.reads;
   read = k ∙ x.read;
 }
 

@@ -37,7 +37,7 @@ pub record OfMove (s : State) (e : Event) (a : Turn) (m : State) : Type 0 where
   pub waited : is_wait a ≡ true → Waited s m
 
 -- room for the entry
-pub room-for : (s m : State) (e : Event) (a : Turn) (capacity : ℕ) → IsState s → OfMove s e a m → bound (job_of s.job) ≤ capacity → is_wait a ≡ false → length s.journal < capacity
+pub room-for : (s m : State) (e : Event) (a : Turn) (capacity : ℕ) → IsState s → OfMove s e a m → capacity ≡ bound (job_of s.job) → is_wait a ≡ false → length s.journal < capacity
 room-for s m e a capacity k of room goes =
     let there : length s.journal + 1 ≤ bound (job_of s.job) = journal-has-room s e (is_flagged a) k.running of.fit (subst (λ (x : Turn). is_wait x ≡ false) of.answers goes) in
     omega arith
@@ -91,10 +91,10 @@ steps-settled s m t old e a b k sees same of is =
     subst (λ (x : Seen). IsStep x e b (seen_of t)) sees (subst (λ (x : Turn). IsStep (seen_of s) e x (seen_of t)) (sym same) stepped)
 
 -- the rooms after it
-pub rooms-stay : (job : Written) (history_room journal_room more_room reads_room read_room : ℕ) → HasRooms job history_room journal_room reads_room read_room → journal_room ≤ more_room → HasRooms job history_room more_room reads_room read_room
+pub rooms-stay : (job : Written) (history_room journal_room more_room reads_room read_room : ℕ) → HasRooms job history_room journal_room reads_room read_room → more_room ≡ journal_room → HasRooms job history_room more_room reads_room read_room
 rooms-stay job history_room journal_room more_room reads_room read_room rooms more = record {
   history = rooms.history;
-  journal = omega (arith, rooms.journal);
+  journal = more ∙ rooms.journal;
   reads = rooms.reads;
   read = rooms.read;
 }

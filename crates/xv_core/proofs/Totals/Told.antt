@@ -57,10 +57,14 @@ each-ended (t ∷ traces) history g h =
     each-ended traces history (g + 1) (λ k lt. sym (ap (λ (n : ℕ). nat_le (length (get_or traces k [])) (ended history n)) (next-guest g k)) ∙ h (suc k) (omega arith))
     ∙ sym (ap (λ (b : Bool). b && all_ended_from (g + 1) traces history) (sym (ap (λ (n : ℕ). nat_le (length t) (ended history n)) same) ∙ h 0 (omega arith)))
 
--- what is told of a wire
+-- what is told of a wire, and its faults
 pub told-wires : (lanes : List LaneSeen) → map (λ (l : LaneSeen). l.wire) lanes ≡ map (λ (w : OnWire). w.told) (map on_wire lanes)
 told-wires [] = refl
 told-wires (l ∷ lanes) = ap (λ (ws : List WireTold). l.wire ∷ ws) (told-wires lanes)
+
+pub faults-wires : (lanes : List LaneSeen) → map (λ (l : LaneSeen). l.faults) lanes ≡ map (λ (w : OnWire). w.faults) (map on_wire lanes)
+faults-wires [] = refl
+faults-wires (l ∷ lanes) = ap (λ (ns : List ℕ). l.faults ∷ ns) (faults-wires lanes)
 
 -- the value of an option that is there
 pub some-is : (b : Bool) (at n : ℕ) → Some at ≡ (if b then Some n else None) → at ≡ n
