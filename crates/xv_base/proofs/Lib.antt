@@ -2,5 +2,5 @@ pub mod Within
 pub mod Sums
 pub mod Blocks
 pub mod Partition
-pub mod Pads
 pub mod Hexes
+pub mod Patterns

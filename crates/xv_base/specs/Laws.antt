@@ -1,5 +1,6 @@
 -- What the units of a layout are to its bytes and to its disks.
 use Rattle.std.specs.Prelude.{◌≡◌, ℕ, ◌+◌, ◌<◌, ◌≤◌, IsTrue, length}
+use Rattle.xv_base.specs.declared.limits.TheConstants.{LEAST_SIZE, MOST_SIZE}
 use Rattle.xv_base.specs.Units.{Shape, units, all_bytes, size, place, max_size, disk_of, block_of, unit_of_block, blocks, block_size}
 use Rattle.xv_base.specs.Layout.{is_unit_size}
 
@@ -9,8 +10,8 @@ pub record PartitionsBytes (s : Shape) : Type 0 where
   pub next : (u : ℕ) → u + 1 < units s → place s u + size s u ≡ place s (u + 1)
   pub last : (u : ℕ) → u + 1 ≡ units s → place s u + size s u ≡ all_bytes s
   pub sizes : (u : ℕ) → u < units s → IsTrue (is_unit_size (size s u))
-  pub at_least : (u : ℕ) → u < units s → 16 ≤ size s u
-  pub at_most : (u : ℕ) → u < units s → size s u ≤ 4096
+  pub at_least : (u : ℕ) → u < units s → LEAST_SIZE ≤ size s u
+  pub at_most : (u : ℕ) → u < units s → size s u ≤ MOST_SIZE
   pub within : (u : ℕ) → u < units s → place s u + size s u ≤ all_bytes s
   pub apart : (u v : ℕ) → u < v → v < units s → place s u + size s u ≤ place s v
 

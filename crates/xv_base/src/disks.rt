@@ -5,6 +5,7 @@ ghost use Rattle.xv_base.specs.Units.{blocks_of, bytes_of, disk_at, block_at, bl
 ghost use Rattle.xv_base.specs.Layout.{is_unit_size, disk_fault, fault_if, first_of};
 
 use crate::layout::LayoutFault;
+use crate::limits::{LEAST_SIZE, MOST_SIZE};
 use crate::unit::DiskShape;
 
 /// A block found by its number over all disks.
@@ -98,7 +99,7 @@ fn larger(most: u32, disk: DiskShape) -> u32
 pub fn is_unit_size(size: u32) -> bool
     ensures { result ≡ is_unit_size size }
 {
-    size.is_power_of_two() && 16 <= size && size <= 4096
+    size.is_power_of_two() && LEAST_SIZE <= size && size <= MOST_SIZE
 }
 
 /// The first disk with blocks of a size that none may have.

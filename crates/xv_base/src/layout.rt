@@ -9,6 +9,7 @@ ghost use Rattle.xv_base.specs.Layout.{is_unit_size, disk_fault, layout_fault, I
 use crate::disks::{
     Spot, count_blocks, count_bytes, disk_fault, is_unit_size, locate, max_block_size,
 };
+use crate::limits::{MOST_BYTES, MOST_DISKS, MOST_UNITS};
 use crate::unit::{DiskShape, UnitId};
 use std::marker::Model;
 
@@ -31,7 +32,7 @@ pub enum LayoutFault {
 pub struct Layout {
     pages: u32,
     page_size: u32,
-    padded: [DiskShape; 4],
+    padded: [DiskShape; MOST_DISKS as usize],
     count: u8,
 }
 
@@ -56,7 +57,7 @@ impl Layout {
     /// The layout of these pages and disks, of which there are at most four; it takes no memory.
     /// Errors: the first fault of the numbers.
     pub fn new(pages: u32, page_size: u32, disks: &[DiskShape]) -> Result<Layout, LayoutFault>
-        requires { length disks.now ≤ 4 }
+        requires { length disks.now ≤ MOST_DISKS }
         ensures ok { IfOk result (λ layout. (layout ≡ shape_of pages page_size disks.now) × IsGood layout) }
         ensures fault { IfErr result (λ fault. layout_fault (shape_of pages page_size disks.now) ≡ Some fault) }
     {
@@ -66,7 +67,7 @@ impl Layout {
         let mut padded = [DiskShape {
             blocks: 0,
             block_size: 0,
-        }; 4];
+        }; MOST_DISKS as usize];
         begin_with(&mut padded, disks);
         Ok(Layout {
             pages,
@@ -232,7 +233,7 @@ impl Layout {
 
 /// What is wrong with these numbers, the first in the order of the faults.
 fn fault_of(pages: u32, page_size: u32, disks: &[DiskShape]) -> Option<LayoutFault>
-    requires { length disks.now ≤ 4 }
+    requires { length disks.now ≤ MOST_DISKS }
     ensures { result ≡ layout_fault (shape_of pages page_size disks.now) }
 {
     if pages == 0 {
@@ -244,10 +245,10 @@ fn fault_of(pages: u32, page_size: u32, disks: &[DiskShape]) -> Option<LayoutFau
     if let Some(fault) = disk_fault(disks) {
         return Some(fault);
     }
-    if u64::from(pages) + count_blocks(disks) > 1 << 20 {
+    if u64::from(pages) + count_blocks(disks) > u64::from(MOST_UNITS) {
         return Some(LayoutFault::TooManyUnits);
     }
-    if u64::from(pages) * u64::from(page_size) + count_bytes(disks) > 1 << 29 {
+    if u64::from(pages) * u64::from(page_size) + count_bytes(disks) > u64::from(MOST_BYTES) {
         return Some(LayoutFault::TooManyBytes);
     }
     None

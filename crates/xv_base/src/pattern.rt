@@ -1,6 +1,6 @@
 //! Patterns of bytes, and what is filled by them.
 
-ghost use Rattle.std.specs.Prelude.{◌≡◌, ◌<◌, ◌≤◌, ◌-◌, ◌++◌, length, replicate};
+ghost use Rattle.std.specs.Prelude.{◌≡◌, ◌+◌, ◌<◌, ◌≤◌, ◌-◌, ◌++◌, length, min, take, replicate};
 ghost use Rattle.xv_base.specs.Pattern.{repeated};
 ghost use Rattle.xv_base.specs.Padded.{padded_to};
 
@@ -89,10 +89,35 @@ fn repeat(bytes: &[u8], into: &mut [u8])
         into.fill(*byte);
         return;
     }
-    let count = bytes.len();
-    for (i, byte) in into.iter_mut().enumerate() {
-        *byte = bytes[i % count];
+    // What is filled doubles at each turn, so that bytes are copied many at once.
+    let mut done = begin_repeat(bytes, into);
+    while done < into.len() {
+        done += copy_on(into, done);
     }
+}
+
+/// Writes the bytes to the start of `into`, as far as they fit, and answers how many.
+fn begin_repeat(bytes: &[u8], into: &mut [u8]) -> usize
+    ensures count { result ≡ min (length bytes.now) (length into.old) }
+    ensures begun { take result into.new ≡ take result bytes.now }
+    ensures size { length into.new ≡ length into.old }
+{
+    let count = bytes.len().min(into.len());
+    into[..count].copy_from_slice(&bytes[..count]);
+    count
+}
+
+/// Copies the first `done` bytes behind themselves, as far as they fit, and answers how many.
+fn copy_on(into: &mut [u8], done: usize) -> usize
+    requires { done ≤ length into.old }
+    ensures count { result ≡ min done (length into.old - done) }
+    ensures copied { take (done + result) into.new ≡ take done into.old ++ take result into.old }
+    ensures size { length into.new ≡ length into.old }
+{
+    let (front, back) = into.split_at_mut(done);
+    let count = done.min(back.len());
+    back[..count].copy_from_slice(&front[..count]);
+    count
 }
 
 /// A unit that does not begin as zeros.

@@ -144,3 +144,17 @@ fn codes_statuses(rt: HostRuntime) {
         assert_eq!(rt; status.code(), want);
     }
 }
+
+#[test]
+fn fails_planned_calls_alone(rt: HostRuntime) -> Result<(), Fail> {
+    for (fails, want) in [
+        ([1, 3], [Err(Failed), Ok(()), Err(Failed), Ok(())]),
+        ([4, 4], [Ok(()), Ok(()), Ok(()), Err(Failed)]),
+    ] {
+        let mut calls = PlannedCalls::new(rt.alloc(), &fails)?;
+        for answer in want {
+            assert_eq!(rt; calls.begin(), answer);
+        }
+    }
+    Ok(())
+}
