@@ -21,11 +21,11 @@ fault_count outcome = if is_faulted outcome then 1 else 0
 abbrev pub faulted : List Ended → ℕ
 faulted entries = count_by (λ e. is_faulted e.outcome) entries
 
--- the counts kept beside the entries are theirs, and there is memory for as many as there is room for
+-- the counts kept beside the entries are theirs, and there is memory for exactly as many as there is room for
 pub record IsCounted (entries : List Ended) (room capacity : ℕ) (counts : List ℕ) (faults : ℕ) : Type 0 where
   pub small : room < 2 ^ 32
   pub fits : length entries ≤ room
-  pub reserved : room ≤ capacity
+  pub reserved : capacity ≡ room
   pub guests : length counts ≡ 2 ^ 8
   pub per_guest : (guest : ℕ) → guest < 2 ^ 8 → slice_index counts guest ≡ ended entries guest
   pub faults_are : faults ≡ faulted entries

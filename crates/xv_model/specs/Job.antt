@@ -1,6 +1,6 @@
 -- What a migration is asked to do: the machine, its limits, the calls that are to fail, the first contents, and
 -- what each guest does.
-use Rattle.std.specs.Prelude.{◌≡◌, ◌≤◌, ◌<◌, ◌⊎◌, ℕ, ◌+◌, ◌&&◌, nat_lt, Bool, true, false, List, [], length, None, is_some, IfSome, get_or, sum_by}
+use Rattle.std.specs.Prelude.{◌≡◌, ◌≤◌, ◌<◌, ◌⊎◌, ℕ, ◌&&◌, nat_lt, Bool, true, List, [], length, None, IfSome, get_or, sum_by}
 use Rattle.std.specs.List.{list_all}
 use Rattle.xv_base.specs.declared.limits.TheConstants.{SINGLE_FORMAT, GROUP_FORMAT, MOST_GROUP, MOST_STREAMS, MOST_CREDIT, MOST_OUTBOX, MOST_REGION, MOST_ROUNDS, MOST_DIRTY, MOST_GUESTS, MOST_OPERATIONS, MOST_FAULTS}
 use Rattle.xv_base.specs.declared.limits.Fault.TheVariants.{SourceRead, SourceWrite, DestRead, DestWrite, Flush, Put, Take, AckPut, AckTake}

@@ -2,6 +2,7 @@
 use Rattle.std.specs.Prelude.{◌≡◌, ℕ, ◌+◌, ◌*◌, ◌≤◌, ◌==◌, List, [], ◌∷◌, ◌++◌, length, map, if◌then◌else◌}
 use Rattle.std.specs.List.{flat_map, sum_by}
 use Rattle.xv_base.specs.Units.{Shape, max_size}
+use Rattle.xv_frame.specs.declared.codes.TheConstants.{HEAD_SIZE, ENTRY_HEAD_SIZE}
 use Rattle.xv_frame.specs.Frame.{Message, Frame, UnitFrame, GroupFrame, Each, IsFrame, IsMessage, spelled, all_spelled}
 use Rattle.xv_streams.specs.Streamed.{LaneSeen}
 
@@ -18,7 +19,7 @@ abbrev pub most_messages : ℕ → ℕ
 most_messages format = if format == 1 then 1 else 16
 
 abbrev pub most_bytes : Shape → ℕ → ℕ
-most_bytes s format = if format == 1 then 24 + max_size s else 44 + max_size s
+most_bytes s format = if format == 1 then HEAD_SIZE + max_size s else HEAD_SIZE + ENTRY_HEAD_SIZE + max_size s
 
 -- the messages on a stream
 abbrev pub joined : List (List Message) → List Message
@@ -38,4 +39,4 @@ pub record IsCarried (s : Shape) (format : ℕ) (l : LaneSeen) : Type 0 where
 pub record IsMade (s : Shape) (messages : List Message) : Type 0 where
   pub few : length messages ≤ 16
   pub each : Each (IsMessage s) messages
-  pub few_bytes : 1 ≤ length messages → length (spelled (GroupFrame messages)) ≤ length messages * (44 + max_size s)
+  pub few_bytes : 1 ≤ length messages → length (spelled (GroupFrame messages)) ≤ length messages * (HEAD_SIZE + ENTRY_HEAD_SIZE + max_size s)

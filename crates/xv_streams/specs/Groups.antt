@@ -2,6 +2,7 @@
 use Rattle.std.specs.Prelude.{◌≡◌, ℕ, ◌+◌, ◌≤◌, ◌==◌, List, [], length, take, drop, replicate, if◌then◌else◌}
 use Rattle.xv_base.specs.Units.{Shape, max_size}
 use Rattle.xv_base.specs.Layout.{IsGood}
+use Rattle.xv_frame.specs.declared.codes.TheConstants.{HEAD_SIZE}
 use Rattle.xv_frame.specs.Frame.{Message, Each, IsMessage, entries}
 use Rattle.xv_frame.specs.Reading.{front_entries}
 use Rattle.xv_wire.specs.Told.{Told}
@@ -24,13 +25,13 @@ most_received format = if format == 1 then 0 else 16
 
 -- the messages of so many entries behind the place of a head
 abbrev pub messages_in : Shape → ℕ → List ℕ → List Message
-messages_in s count frame = front_entries s count (drop 24 frame)
+messages_in s count frame = front_entries s count (drop HEAD_SIZE frame)
 
 -- the group being made: its entries, and where they end; there is none in format 1
 pub record IsMaking (s : Shape) (format count end : ℕ) (frame : List ℕ) : Type 0 where
   pub few : count ≤ 16
-  pub ends : end ≡ 24 + length (entries (messages_in s count frame))
-  pub laid : take (length (entries (messages_in s count frame))) (drop 24 frame) ≡ entries (messages_in s count frame)
+  pub ends : end ≡ HEAD_SIZE + length (entries (messages_in s count frame))
+  pub laid : take (length (entries (messages_in s count frame))) (drop HEAD_SIZE frame) ≡ entries (messages_in s count frame)
   pub each : Each (IsMessage s) (messages_in s count frame)
   pub none : format ≡ 1 → count ≡ 0
 

@@ -11,7 +11,7 @@ ghost use Rattle.xv_streams.specs.Streamed.{no_message, message_at};
 use std::alloc::Global;
 use std::marker::Model;
 use xv_base::{Layout, NoMemory, UnitHead, UnitId};
-use xv_frame::{decode_entry, decode_group_head};
+use xv_frame::{ENTRY_HEAD_SIZE, HEAD_SIZE, decode_entry, decode_group_head};
 
 /// A message, with its content in a buffer that may have room for more.
 #[derive(Drop)]
@@ -99,10 +99,10 @@ impl Place {
                 let size = layout.size(entry.head.unit) as usize;
                 if entry.zero {
                     self.keep_zeros(entry.head, size);
-                    20
+                    ENTRY_HEAD_SIZE
                 } else {
-                    self.keep(entry.head, &bytes[20..20 + size]);
-                    20 + size
+                    self.keep(entry.head, &bytes[ENTRY_HEAD_SIZE..ENTRY_HEAD_SIZE + size]);
+                    ENTRY_HEAD_SIZE + size
                 }
             }
             Err(_) => unreachable!(),
@@ -171,7 +171,7 @@ impl Received {
         match decode_group_head(frame) {
             Ok(head) => {
                 self.count = head.count as usize;
-                read_entries(&mut self.places, self.count, &frame[24..], layout);
+                read_entries(&mut self.places, self.count, &frame[HEAD_SIZE..], layout);
                 u32::from(head.count)
             }
             Err(_) => unreachable!(),

@@ -19,7 +19,7 @@ use crate::received::Received;
 use std::alloc::Global;
 use std::marker::Model;
 use xv_base::{Failed, Layout, NoMemory, UnitHead};
-use xv_frame::{Head, encode_unit, read_head};
+use xv_frame::{ENTRY_HEAD_SIZE, HEAD_SIZE, Head, encode_unit, read_head};
 use xv_wire::Wire;
 
 /// Some wires, each of which carries the messages of one stream.
@@ -93,7 +93,7 @@ impl<W: Wire> Streams<W> {
             lanes,
             frame,
             count: 0,
-            end: 24,
+            end: HEAD_SIZE,
             received,
         })
     }
@@ -123,7 +123,7 @@ impl<W: Wire> Streams<W> {
         requires unit_in { head.unit.0 < units self.old.shape }
         requires made { 1 ≤ head.version }
         requires whole { length bytes.now ≡ size self.old.shape head.unit.0 }
-        requires room { length (lane self.old stream).wire.transit + (24 + length bytes.now) ≤ (lane self.old stream).wire.capacity }
+        requires room { length (lane self.old stream).wire.transit + (HEAD_SIZE + length bytes.now) ≤ (lane self.old stream).wire.capacity }
         requires countable { IfSome (lane self.old stream).wire.counted (λ c. c.puts < 2 ^ 63) }
         ensures others { OnlyLane stream self.old self.new }
         ensures put { FramePut (UnitFrame (message head bytes.now)) (is_err result) (lane self.old stream) (lane self.new stream) }
@@ -182,7 +182,7 @@ impl<W: Wire> Streams<W> {
         let end = self.end;
         put_head(self.count, end, &mut self.frame);
         self.count = 0;
-        self.end = 24;
+        self.end = HEAD_SIZE;
         let place = stream as usize;
         put_frame(
             &mut self.wires[place],
@@ -241,7 +241,8 @@ impl<W: Wire> Streams<W> {
 
     /// The wires as they are.
     pub fn into_wires(self) -> Vec<W>
-        ensures { map W.told result.items ≡ map (λ l. l.wire) self.lanes }
+        ensures told { map W.told result.items ≡ map (λ l. l.wire) self.lanes }
+        ensures faults { map W.faults result.items ≡ map (λ l. l.faults) self.lanes }
     {
         self.wires
     }
@@ -250,7 +251,7 @@ impl<W: Wire> Streams<W> {
 /// Puts a frame, which then is on the way.
 fn put_frame<W: Wire>(wire: &mut W, lane: &mut Lane, frame: &[u8]) -> Result<(), Failed>
     requires room { MayCall (PutBytes frame.now) (W.told wire.old) }
-    requires few { lane.old.waiting * 24 ≤ length lane.old.bytes + length (W.told wire.old).transit }
+    requires few { lane.old.waiting * HEAD_SIZE ≤ length lane.old.bytes + length (W.told wire.old).transit }
     requires short { length lane.old.bytes < 2 ^ 32 }
     ensures made { CallMade (PutBytes frame.now) (is_err result) (W.told wire.old) (W.told wire.new) (W.faults wire.old) (W.faults wire.new) }
     ensures counted { lane.new ≡ record lane.old { waiting = if is_err result then lane.old.waiting else lane.old.waiting + 1 } }
@@ -324,15 +325,15 @@ fn receive_messages<W: Wire>(
 
 /// Reads a unit frame, whose content goes to the first bytes of `into`.
 fn read_unit(frame: &[u8], layout: &Layout, into: &mut [u8]) -> UnitHead
-    requires long { 24 ≤ length frame.now }
-    requires room { length frame.now ≤ 24 + length into.old }
-    requires known { read_head layout.now (take 24 frame.now) ≡ Ok (Head.Unit (front_head frame.now)) }
+    requires long { HEAD_SIZE ≤ length frame.now }
+    requires room { length frame.now ≤ HEAD_SIZE + length into.old }
+    requires known { read_head layout.now (take HEAD_SIZE frame.now) ≡ Ok (Head.Unit (front_head frame.now)) }
     ensures head { result ≡ front_head frame.now }
-    ensures content { take (length frame.now - 24) into.new ≡ drop 24 frame.now }
+    ensures content { take (length frame.now - HEAD_SIZE) into.new ≡ drop HEAD_SIZE frame.now }
 {
-    let content = frame.len() - 24;
-    into[..content].copy_from_slice(&frame[24..]);
-    match read_head(&frame[..24], layout) {
+    let content = frame.len() - HEAD_SIZE;
+    into[..content].copy_from_slice(&frame[HEAD_SIZE..]);
+    match read_head(&frame[..HEAD_SIZE], layout) {
         Ok(Head::Unit(head)) => head,
         Ok(Head::Ack(_)) => unreachable!(),
         Err(_) => unreachable!(),
@@ -346,9 +347,9 @@ fn frame_room(layout: &Layout, format: u8) -> usize
 {
     let size = layout.max_size() as usize;
     if format == 1 {
-        24 + size
+        HEAD_SIZE + size
     } else {
-        24 + 16 * (20 + size)
+        HEAD_SIZE + 16 * (ENTRY_HEAD_SIZE + size)
     }
 }
 
