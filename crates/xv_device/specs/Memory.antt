@@ -1,10 +1,9 @@
 -- What is seen of a device in memory, and how it begins.
-use Rattle.std.specs.Prelude.{Some, ◌≡◌, ℕ, ◌==◌, Bool, if◌then◌else◌, List, [], ◌∷◌, length, map, replicate}
-use Rattle.std.specs.List.{range_with_len}
+use Rattle.std.specs.Prelude.{Some, ◌≡◌, ℕ, Bool, if◌then◌else◌, List, length, replicate}
 use Rattle.xv_base.specs.declared.pattern.Init.{Init}
-use Rattle.xv_base.specs.Units.{Shape, units, size, all_bytes}
+use Rattle.xv_base.specs.Units.{Shape, units, all_bytes}
 use Rattle.xv_base.specs.Layout.{IsGood}
-use Rattle.xv_base.specs.Pattern.{repeated}
+pub use Rattle.xv_base.specs.Initial.{no_init, first_content, first_contents}
 use Rattle.xv_device.specs.Told.{Told}
 use Rattle.xv_device.specs.Device.{DeviceCall, Plan, Calls, Counted, contents_after, writes_after, calls_after, next_count}
 
@@ -15,18 +14,6 @@ pub record Device : Type 0 where
   pub plan : Plan
   pub calls : Calls
   pub faults : ℕ
-
--- what stands for an initial content that is not there
-abbrev pub no_init : Init
-no_init = record { unit = record { 0 = 0 }; pattern = [] }
-
--- a unit's first content: zeros, or the pattern that it begins with
-abbrev pub first_content : List Init → ℕ → ℕ → List ℕ
-first_content [] bytes unit = replicate bytes 0
-first_content (i ∷ is) bytes unit = if i.unit.0 == unit then repeated i.pattern bytes else first_content is bytes unit
-
-abbrev pub first_contents : Shape → List Init → List (List ℕ)
-first_contents shape init = map (λ unit. first_content init (size shape unit) unit) (range_with_len 0 (units shape))
 
 -- a device on which no call was made
 abbrev pub fresh : Shape → List Init → Plan → Device
