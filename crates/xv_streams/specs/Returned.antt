@@ -1,5 +1,6 @@
 -- What is seen of the wire back.
 use Rattle.std.specs.Prelude.{◌≡◌, ℕ, ◌≤◌, List, [], ◌∷◌, ◌++◌, ◌+◌, ◌-◌, ◌*◌, length, map, drop, Bool, true, false, Option, Some, None, Result, IfOk, IfErr, IfSome, is_err, if◌then◌else◌}
+use Rattle.xv_base.specs.declared.limits.TheConstants.{MOST_CREDIT}
 use Rattle.xv_base.specs.Units.{Shape, shape_of}
 use Rattle.xv_base.specs.declared.unit.Failed.{Failed}
 use Rattle.xv_frame.specs.declared.codes.TheConstants.{HEAD_SIZE}
@@ -58,7 +59,7 @@ pub record AckTaken (result : Result (Option ℕ) Failed) (old new : Returned) :
   pub counts : new.counts ≡ (if is_err result then old.counts else drop 1 old.counts)
   pub answer : IfOk result (λ it. it ≡ first_count old.counts)
   pub none : IfOk result (λ it. it ≡ None → old.counts ≡ [])
-  pub in_range : IfOk result (λ it. IfSome it (λ n. (1 ≤ n) × (n ≤ 1024)))
+  pub in_range : IfOk result (λ it. IfSome it (λ n. (1 ≤ n) × (n ≤ MOST_CREDIT)))
   pub gathered : IfOk result (λ it. new.gathered ≡ [])
   pub kept : IfErr result (λ e. new.gathered ++ new.wire.transit ≡ old.gathered ++ old.wire.transit)
   pub made : TakesMade (length old.wire.transit - length new.wire.transit) (is_err result) (ack_left (length old.gathered)) old.wire new.wire old.faults new.faults
@@ -66,7 +67,7 @@ pub record AckTaken (result : Result (Option ℕ) Failed) (old new : Returned) :
 -- the bytes gathered and those in transit are exactly the spellings of the acknowledgements, each a head alone
 pub record AreCarried (r : Returned) : Type 0 where
   pub stand : r.gathered ++ r.wire.transit ≡ all_spelled (map AckFrame r.counts)
-  pub counts : Each (λ n. (1 ≤ n) × (n ≤ 1024)) r.counts
+  pub counts : Each (λ n. (1 ≤ n) × (n ≤ MOST_CREDIT)) r.counts
   pub bytes : length r.gathered + length r.wire.transit ≡ HEAD_SIZE * length r.counts
 
 -- the first count was taken off, or a take failed and what is gathered stays, whatever was answered

@@ -6,7 +6,7 @@ ghost use Rattle.xv_frame.specs.Fields.{word_at};
 
 use crate::filling::fill;
 use std::marker::Model;
-use xv_base::Failed;
+use xv_base::{Failed, MOST_CREDIT};
 use xv_frame::{HEAD_SIZE, encode_ack};
 use xv_wire::Wire;
 
@@ -48,11 +48,11 @@ impl<W: Wire> BackWire<W> {
         }
     }
 
-    /// Puts an acknowledgement of `count` messages, from 1 to 1,024, where it fits the wire.
+    /// Puts an acknowledgement of `count` messages, from 1 to `MOST_CREDIT`, where it fits the wire.
     /// Errors: the wire failed, and the list is unchanged.
     pub fn put_ack(&mut self, count: u32) -> Result<(), Failed>
         requires some { 1 ≤ count }
-        requires few { count ≤ 1024 }
+        requires few { count ≤ MOST_CREDIT }
         requires room { length self.old.wire.transit + HEAD_SIZE ≤ self.old.wire.capacity }
         requires countable { IfSome self.old.wire.counted (λ c. c.puts < 2 ^ 63) }
         ensures { AckPut count (is_err result) self.old self.new }

@@ -4,7 +4,7 @@ ghost use Rattle.std.specs.Prelude.{◌≡◌, ◌+◌, ◌-◌, ◌^◌, ◌<�
 ghost use Rattle.xv_base.specs.Units.{units, size};
 ghost use Rattle.xv_frame.specs.Frame.{message, entry, group_head};
 
-use xv_base::{Layout, UnitHead};
+use xv_base::{Layout, MOST_GROUP, UnitHead};
 use xv_frame::{ENTRY_HEAD_SIZE, HEAD_SIZE, encode_entry, encode_group_head};
 
 /// Writes the entry of a message from `end` on, and answers where it ends.
@@ -28,7 +28,7 @@ pub fn add_entry(
 /// Writes the head of a group of so many messages, whose entries end at `end`.
 pub fn put_head(count: u32, end: usize, frame: &mut [u8])
     requires some { 1 ≤ count }
-    requires few { count ≤ 16 }
+    requires few { count ≤ MOST_GROUP }
     requires begun { HEAD_SIZE ≤ end }
     requires short { end < 2 ^ 32 }
     requires room { HEAD_SIZE ≤ length frame.old }

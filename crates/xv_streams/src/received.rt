@@ -10,7 +10,7 @@ ghost use Rattle.xv_streams.specs.Streamed.{no_message, message_at};
 
 use std::alloc::Global;
 use std::marker::Model;
-use xv_base::{Layout, NoMemory, UnitHead, UnitId};
+use xv_base::{Layout, MOST_GROUP, NoMemory, UnitHead, UnitId};
 use xv_frame::{ENTRY_HEAD_SIZE, HEAD_SIZE, decode_entry, decode_group_head};
 
 /// A message, with its content in a buffer that may have room for more.
@@ -164,7 +164,7 @@ impl Received {
     pub fn read(&mut self, frame: &[u8], layout: &Layout) -> u32
         requires sound { group_fault layout.now frame.now ≡ None }
         requires room { All (λ room. max_size layout.now ≤ room) self.old.rooms }
-        requires places { length self.old.rooms ≡ 16 }
+        requires places { length self.old.rooms ≡ MOST_GROUP }
         ensures count { result ≡ length (front_group layout.now frame.now) }
         ensures kept { self.new ≡ record self.old { messages = front_group layout.now frame.now } }
     {
