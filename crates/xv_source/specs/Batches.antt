@@ -1,15 +1,10 @@
 -- The messages that go on a stream together.
-use Rattle.std.specs.Prelude.{ℕ, ◌-◌, ◌==◌, List, map, drop, if◌then◌else◌}
+use Rattle.std.specs.Prelude.{ℕ, ◌-◌, ◌==◌, drop, if◌then◌else◌}
 use Rattle.xv_base.specs.declared.limits.TheConstants.{SINGLE_FORMAT}
-use Rattle.xv_frame.specs.Frame.{Message, message}
-use Rattle.xv_outbox.specs.Messages.{Outbox, Message as Unsent}
+use Rattle.xv_outbox.specs.Messages.{Outbox}
 use Rattle.xv_model.specs.View.{UnitHead}
 use Rattle.xv_model.specs.Effect.{Turn, note}
 use Rattle.xv_source.specs.Half.{Source}
-
--- the messages of an outbox as a frame has them
-abbrev pub framed : List Unsent → List Message
-framed messages = map (λ m. message m.head m.content) messages
 
 -- an outbox and a half without the first n messages, each of which has taken one of the credit
 abbrev pub outbox_past : ℕ → Outbox → Outbox
