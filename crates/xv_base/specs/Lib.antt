@@ -8,3 +8,4 @@ pub mod Hex
 pub mod Initial
 pub mod Legal
 pub mod Calls
+pub mod Message

@@ -1,6 +1,6 @@
 -- How a call of a node answers by its table.
 use Rattle.std.specs.Prelude.{◌≡◌, ◌≤◌, ℕ, Bool, true, false, Option, None, Some}
-use Rattle.xv_io.specs.Io.{CountRose}
+use Rattle.xv_base.specs.Calls.{CountRose}
 use Rattle.xv_handover.specs.declared.message.Message.{Message}
 use Rattle.xv_handover.specs.declared.message.Reply.{Reply}
 use Rattle.xv_handover.specs.declared.message.Reply.TheVariants.{Done, NotNow, Failed}

@@ -1,7 +1,7 @@
 //! What keeps a node's value over its restarts.
 
 ghost use Rattle.std.specs.Prelude.{◌≡◌, ℕ, ◌≤◌, Bool, true, false, OnOk, OnErr, is_err};
-ghost use Rattle.xv_io.specs.Io.{CountRose};
+ghost use Rattle.xv_base.specs.Calls.{CountRose};
 
 use xv_base::Failed;
 

@@ -1,7 +1,7 @@
 //! A keeper in memory, whose calls fail by a plan.
 
 ghost use Rattle.std.specs.Prelude.{◌≡◌, ◌≤◌, false, length, IfOk, OnOk, OnErr, is_err};
-ghost use Rattle.xv_io.specs.Io.{faults_after, next_count};
+ghost use Rattle.xv_base.specs.Calls.{next_count};
 ghost use Rattle.xv_io.specs.Memory.{is_listed};
 
 use crate::keeper::Keeper;

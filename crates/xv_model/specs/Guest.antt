@@ -1,5 +1,5 @@
 -- The unmigrated guest: its history, and what each unit holds and each read gives after a beginning of it.
-use Rattle.std.specs.Prelude.{ℕ, zero, suc, ◌+◌, ◌==◌, ◌&&◌, Bool, true, false, is_some, is_none, if◌then◌else◌, List, [], ◌∷◌, ◌++◌, take, drop, get_or, Some, None, Option, count_by}
+use Rattle.std.specs.Prelude.{ℕ, zero, suc, ◌+◌, ◌==◌, ◌&&◌, Bool, true, false, is_some, is_none, if◌then◌else◌, List, [], ◌++◌, take, drop, get_or, Some, None, Option, count_by}
 use Rattle.xv_model.specs.Job.{Job, UnitOp, size, repeated, operation}
 use Rattle.xv_base.specs.Initial.{first_content}
 pub use Rattle.xv_base.specs.declared.operation.Ended.{Ended}

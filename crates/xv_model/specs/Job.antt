@@ -1,7 +1,8 @@
 -- What a migration is asked to do: the machine, its limits, the calls that are to fail, the first contents, and
 -- what each guest does.
-use Rattle.std.specs.Prelude.{◌≡◌, ◌≤◌, ◌<◌, ◌⊎◌, ℕ, ◌+◌, ◌&&◌, nat_lt, Bool, true, false, List, [], length, None, is_some, IfSome, get_or, sum_by}
+use Rattle.std.specs.Prelude.{◌≡◌, ◌≤◌, ◌<◌, ◌⊎◌, ℕ, ◌&&◌, nat_lt, Bool, true, List, [], length, None, IfSome, get_or, sum_by}
 use Rattle.std.specs.List.{list_all}
+use Rattle.xv_base.specs.declared.limits.TheConstants.{SINGLE_FORMAT, GROUP_FORMAT, MOST_GROUP, MOST_STREAMS, MOST_CREDIT, MOST_OUTBOX, MOST_REGION, MOST_ROUNDS, MOST_DIRTY, MOST_GUESTS, MOST_OPERATIONS, MOST_FAULTS}
 use Rattle.xv_base.specs.declared.limits.Fault.TheVariants.{SourceRead, SourceWrite, DestRead, DestWrite, Flush, Put, Take, AckPut, AckTake}
 pub use Rattle.xv_base.specs.Units.{Shape, units, size, is_page, disk_of, block_of, unit_of_block, blocks}
 pub use Rattle.xv_base.specs.Layout.{IsGood}
@@ -62,18 +63,18 @@ is_good_fault streams (AckTake k) = nat_lt 0 k
 pub record IsGoodJob (job : Job) : Type 0 where
   pub machine : IsGood job.shape
   pub some_blocks : (d : ℕ) → d < length job.shape.disks → 1 ≤ blocks job.shape.disks d
-  pub formats : ((job.format ≡ 1) × (job.group ≡ 1)) ⊎ ((job.format ≡ 2) × (1 ≤ job.group) × (job.group ≤ 16))
-  pub streams : (1 ≤ job.config.streams) × (job.config.streams ≤ 8)
-  pub credit : (1 ≤ job.config.credit) × (job.config.credit ≤ 1024)
-  pub outbox : (1 ≤ job.config.outbox) × (job.config.outbox ≤ 1024)
-  pub region : (1 ≤ job.config.region) × (job.config.region ≤ 256) × (job.config.region ≤ job.config.outbox)
-  pub rounds : (1 ≤ job.config.rounds) × (job.config.rounds ≤ 64)
-  pub dirty : job.config.dirty ≤ 1048576
+  pub formats : ((job.format ≡ SINGLE_FORMAT) × (job.group ≡ 1)) ⊎ ((job.format ≡ GROUP_FORMAT) × (1 ≤ job.group) × (job.group ≤ MOST_GROUP))
+  pub streams : (1 ≤ job.config.streams) × (job.config.streams ≤ MOST_STREAMS)
+  pub credit : (1 ≤ job.config.credit) × (job.config.credit ≤ MOST_CREDIT)
+  pub outbox : (1 ≤ job.config.outbox) × (job.config.outbox ≤ MOST_OUTBOX)
+  pub region : (1 ≤ job.config.region) × (job.config.region ≤ MOST_REGION) × (job.config.region ≤ job.config.outbox)
+  pub rounds : (1 ≤ job.config.rounds) × (job.config.rounds ≤ MOST_ROUNDS)
+  pub dirty : job.config.dirty ≤ MOST_DIRTY
   pub cancel : IfSome job.config.cancel (λ k. k ≤ operation_count job)
-  pub guests : (1 ≤ guest_count job) × (guest_count job ≤ 16)
-  pub operations : operation_count job ≤ 1048576
+  pub guests : (1 ≤ guest_count job) × (guest_count job ≤ MOST_GUESTS)
+  pub operations : operation_count job ≤ MOST_OPERATIONS
   pub legal : (guest k : ℕ) → k < length (trace job guest) → IsLegal job.shape (operation job guest k)
   pub init_units : (i : ℕ) → i < length job.init → (get_or job.init i no_init).unit.0 < unit_count job
   pub init_rises : (i j : ℕ) → i < j → j < length job.init → (get_or job.init i no_init).unit.0 < (get_or job.init j no_init).unit.0
-  pub fault_lines : length job.faults ≤ 32
+  pub fault_lines : length job.faults ≤ MOST_FAULTS
   pub fault_numbers : list_all (is_good_fault job.config.streams) job.faults ≡ true

@@ -3,7 +3,8 @@
 ghost use Rattle.std.specs.Prelude.{◌≡◌, ◌≤◌, IfOk, IfSome, IsErrOf, OnOk, OnErr};
 ghost use Rattle.serde_json.specs.Data.{put as with_member, string, object, no_members};
 ghost use Rattle.serde_json.specs.View.{view, members_view};
-ghost use Rattle.xv_io.specs.Io.{CountRose, TookFront, TookMore};
+ghost use Rattle.xv_base.specs.Calls.{CountRose};
+ghost use Rattle.xv_io.specs.Io.{TookFront, TookMore};
 ghost use Rattle.xv_report.specs.Json.{number_value, stun_value, put_workers, with_state, with_work, with_tally, report_value, report_json, TellsEach};
 ghost use Rattle.xv_report.specs.Workers.{worker_name, AreDistinct, HasSmallNumber, HaveSmallNumbers, tally_of};
 

@@ -4,7 +4,8 @@ ghost use Rattle.std.specs.Prelude.{◌≡◌, ◌<◌, ◌≤◌, ◌+◌, ◌*
 ghost use Rattle.std.specs.Simd.Lanes.{Each1};
 ghost use Rattle.xv_base.specs.Hex.{hex, hex_digit};
 ghost use Rattle.xv_base.specs.Units.{units};
-ghost use Rattle.xv_io.specs.Io.{CountRose, TookFront, TookMore};
+ghost use Rattle.xv_base.specs.Calls.{CountRose};
+ghost use Rattle.xv_io.specs.Io.{TookFront, TookMore};
 ghost use Rattle.xv_report.specs.Texts.{is_zero, full_line, unit_line, side_text, image_text};
 
 use std::simd::prelude::*;

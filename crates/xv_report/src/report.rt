@@ -2,7 +2,8 @@
 
 ghost use Rattle.std.specs.List.{flat_map};
 ghost use Rattle.std.specs.Prelude.{◌≡◌, ◌≤◌, ◌+◌, ◌++◌, Option, length, codes, decimal, OnOk, OnErr};
-ghost use Rattle.xv_io.specs.Io.{CountRose, TookFront, TookMore};
+ghost use Rattle.xv_base.specs.Calls.{CountRose};
+ghost use Rattle.xv_io.specs.Io.{TookFront, TookMore};
 ghost use Rattle.xv_report.specs.Texts.{row, phase_word, owner_word, stun_word, state_rows, work_rows, worker_row, tally_rows, report_text};
 ghost use Rattle.xv_report.specs.Workers.{tally_of, worker_name};
 

@@ -1,7 +1,7 @@
 -- How far the answers of a handover have been written.
 use Rattle.std.proofs.Common.{◌≡◌, ℕ, ◌+◌, ◌<◌, ◌≤◌, List, [], ◌∷◌, ◌++◌, length, drop, get_or, refl, sym, ap, ◌∙◌, subst, append_assoc, append-nil, add-one, drop-cons, Option}
 use Rattle.xv_io.specs.Io.{TookMore, TookFront}
-use Rattle.xv_report.proofs.Took.{took-both, took-none, front-then}
+use Rattle.xv_io.proofs.Took.{took-both, took-none, front-then}
 use Rattle.xv_handover.specs.Lines.{reply_line, transcript}
 use Rattle.xv_handover.specs.declared.message.Reply.{Reply}
 use Rattle.xv_handover.specs.declared.world.WorldEvent.{WorldEvent}

@@ -6,7 +6,7 @@ use Rattle.std.proofs.lemmas.Bool.{and_parts}
 use Rattle.std.proofs.Math.Seq.{drop-append_seam}
 use Rattle.std.proofs.lemmas.List.{take-append-drop, take_more, take_all, nil_from_length, length-drop}
 use Rattle.xv_io.specs.Io.{TookMore}
-use Rattle.xv_report.proofs.Took.{took-both, took-none}
+use Rattle.xv_io.proofs.Took.{took-both, took-none}
 use Rattle.xv_model.specs.Wait.{Event}
 use Rattle.xv_model.specs.Effect.{Turn}
 use Rattle.xv_script.specs.Lines.{turn_line}

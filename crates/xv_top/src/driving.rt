@@ -2,7 +2,8 @@
 
 ghost use Rattle.std.specs.Prelude.{◌≡◌, ◌≢◌, ◌≤◌, ℕ, length, IfOk, OnOk, OnErr, IsErrOf};
 ghost use Rattle.xv_base.specs.Units.{units};
-ghost use Rattle.xv_io.specs.Io.{CountRose, TookMore, TookFront};
+ghost use Rattle.xv_base.specs.Calls.{CountRose};
+ghost use Rattle.xv_io.specs.Io.{TookMore, TookFront};
 ghost use Rattle.xv_model.specs.Job.{unit_count, trace};
 ghost use Rattle.xv_model.specs.Guest.{ended};
 ghost use Rattle.xv_job.specs.Written.{job_of};

@@ -1,7 +1,8 @@
 //! The command `gen`: the text of the job that a number makes.
 
 ghost use Rattle.std.specs.Prelude.{◌≡◌, ◌≢◌, IfOk};
-ghost use Rattle.xv_io.specs.Io.{CountRose, TookMore, TookFront};
+ghost use Rattle.xv_base.specs.Calls.{CountRose};
+ghost use Rattle.xv_io.specs.Io.{TookMore, TookFront};
 ghost use Rattle.xv_job.specs.JobText.{job_text};
 ghost use Rattle.xv_job.specs.Made.{made_job};
 

@@ -1,7 +1,8 @@
 //! The command `handover`: a script of events, played on two nodes.
 
 ghost use Rattle.std.specs.Prelude.{◌≡◌, ◌≢◌, ◌≤◌, ◌+◌, ◌⊎◌, ◌++◌, Some, All, length, vec_len, IfOk, IfErr, IfSome, OnOk, OnErr, IsErrOf};
-ghost use Rattle.xv_io.specs.Io.{CountRose, IsAtEnd, GaveAtLeast, TookMore, TookFront};
+ghost use Rattle.xv_base.specs.Calls.{CountRose};
+ghost use Rattle.xv_io.specs.Io.{IsAtEnd, GaveAtLeast, TookMore, TookFront};
 ghost use Rattle.xv_handover.specs.declared.message.Reply.TheVariants.{Failed};
 ghost use Rattle.xv_handover.specs.Lines.{transcript, nodes_text, world_text};
 ghost use Rattle.xv_top.specs.Refused.{input_limit};

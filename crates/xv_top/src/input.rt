@@ -1,7 +1,8 @@
 //! The input of the program, read and checked whole.
 
 ghost use Rattle.std.specs.Prelude.{◌≡◌, ◌≤◌, ◌+◌, ◌⊎◌, Some, length, drop, take, IfSome, IfOk, IfErr, OnOk, IsErrOf};
-ghost use Rattle.xv_io.specs.Io.{CountRose, IsAtEnd, GaveAtLeast};
+ghost use Rattle.xv_base.specs.Calls.{CountRose};
+ghost use Rattle.xv_io.specs.Io.{IsAtEnd, GaveAtLeast};
 ghost use Rattle.xv_job.specs.Written.{job_of};
 ghost use Rattle.xv_script.specs.Script.{IsScriptOf};
 ghost use Rattle.xv_top.specs.Refused.{input_limit, input_fault};

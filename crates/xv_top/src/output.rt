@@ -1,7 +1,8 @@
 //! The output of the program: the report and the image of a migration, and whole texts.
 
 ghost use Rattle.std.specs.Prelude.{◌≡◌, ◌≤◌, OnOk, OnErr, IsErrOf};
-ghost use Rattle.xv_io.specs.Io.{CountRose, TookMore, TookFront};
+ghost use Rattle.xv_base.specs.Calls.{CountRose};
+ghost use Rattle.xv_io.specs.Io.{TookMore, TookFront};
 ghost use Rattle.xv_job.specs.Written.{job_of};
 ghost use Rattle.xv_parts.specs.Memory.{IsInMemory};
 ghost use Rattle.xv_top.specs.Replay.{totals_text, result_text};

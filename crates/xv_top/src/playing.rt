@@ -2,7 +2,8 @@
 
 ghost use Rattle.std.specs.Prelude.{◌≡◌, ◌<◌, ◌≤◌, ℕ, true, List, OnOk, OnErr};
 ghost use Rattle.std.specs.List.{list_all};
-ghost use Rattle.xv_io.specs.Io.{CountRose, TookMore};
+ghost use Rattle.xv_base.specs.Calls.{CountRose};
+ghost use Rattle.xv_io.specs.Io.{TookMore};
 ghost use Rattle.xv_model.specs.Job.{unit_count};
 ghost use Rattle.xv_model.specs.Wait.{fits};
 ghost use Rattle.xv_job.specs.Written.{job_of};

@@ -1,7 +1,8 @@
 //! The top call of the program.
 
 ghost use Rattle.std.specs.Prelude.{ℕ, ◌≡◌, ◌≢◌, ◌≤◌, ◌+◌, ◌⊎◌, map, IfOk, OnOk, IsErrOf, OnErr, string_bytes};
-ghost use Rattle.xv_io.specs.Io.{CountRose, IsAtEnd, GaveAtLeast, TookMore, TookFront};
+ghost use Rattle.xv_base.specs.Calls.{CountRose};
+ghost use Rattle.xv_io.specs.Io.{IsAtEnd, GaveAtLeast, TookMore, TookFront};
 ghost use Rattle.xv_job.specs.Written.{job_of};
 ghost use Rattle.xv_script.specs.Script.{IsScriptOf};
 ghost use Rattle.xv_parts.specs.Memory.{begun_in_memory};

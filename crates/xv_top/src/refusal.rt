@@ -1,7 +1,8 @@
 //! How words and inputs are refused.
 
 ghost use Rattle.std.specs.Prelude.{◌≡◌, ◌⊎◌, ◌≤◌, ◌+◌, ◌++◌, length, codes, decimal};
-ghost use Rattle.xv_io.specs.Io.{CountRose, TookMore, TookFront};
+ghost use Rattle.xv_base.specs.Calls.{CountRose};
+ghost use Rattle.xv_io.specs.Io.{TookMore, TookFront};
 ghost use Rattle.xv_top.specs.Refused.{why_words, refused_line, refused_words};
 
 use crate::output::write_out;

@@ -1,7 +1,8 @@
 use Rattle.std.proofs.Common.{◌≡◌, ◌<◌, List, ℕ, length, sym, ap, ◌∙◌, arith}
 use Rattle.xv_base.specs.Units.{units}
 use Rattle.xv_report.specs.Texts.{unit_line}
-use Rattle.xv_report.proofs.Took.{line_of, range-front, range-took, side-front, at_text, took-text}
+use Rattle.xv_io.proofs.Took.{at_text, took-text}
+use Rattle.xv_report.proofs.Took.{line_of, range-front, range-took, side-front}
 use Rattle.xv_report.proofs.image.write_side.Goals as goal
 
 pub returns-in_err-write_unit-clause-front : goal.returns-in_err-write_unit-clause-front
