@@ -1,6 +1,5 @@
 -- An operation that a test carries out on the second of two pages is legal.
 use Rattle.std.proofs.Common.{◌≡◌, ℕ, ◌≤◌, List, [], Option, sym, subst, arith}
-use Rattle.xv_base.specs.declared.pattern.UnitOp.{UnitOp}
 use Rattle.xv_base.specs.Units.{Shape, shape_of}
 use Rattle.xv_base.specs.Legal.{IsLegal}
 

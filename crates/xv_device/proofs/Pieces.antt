@@ -1,5 +1,5 @@
 -- What is read and written of one unit's bytes, and that the others' stay.
-use Rattle.std.proofs.Common.{◌≡◌, ◌≢◌, ℕ, ◌+◌, ◌-◌, ◌^◌, ◌<◌, ◌≤◌, List, [], ◌++◌, length, get_or, set, take, drop, sym, ap, ◌∙◌, arith, inl, inr, subst, rules, length-append, length-drop}
+use Rattle.std.proofs.Common.{◌≡◌, ◌≢◌, ℕ, ◌+◌, ◌-◌, ◌^◌, ◌<◌, ◌≤◌, List, [], length, get_or, set, take, drop, sym, ap, ◌∙◌, arith, inl, inr, subst, rules, length-drop}
 use Rattle.std.proofs.lemmas.List.{same_lists, places, length-take, take-take, drop-take, drop-drop, get_or-set_same, get_or-set_other, length-set, get_or_read}
 use Rattle.std.proofs.lemmas.List.FromFn.{length-map-range_with_len, get_or-map-range_with_len}
 use Rattle.std.proofs.lemmas.Bool.{cases_lt, cases_eq}

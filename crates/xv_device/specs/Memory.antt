@@ -6,7 +6,7 @@ use Rattle.xv_base.specs.Layout.{IsGood}
 use Rattle.xv_base.specs.Calls.{Planned, planned, after_call}
 pub use Rattle.xv_base.specs.Initial.{no_init, first_content, first_contents}
 use Rattle.xv_device.specs.Told.{Told}
-use Rattle.xv_device.specs.Device.{DeviceCall, NoCall, ReadRange, PatchRange, WriteUnit, FlushAll, Plan, Calls, Counted, contents_after, writes_after}
+use Rattle.xv_device.specs.Device.{DeviceCall, NoCall, ReadRange, PatchRange, WriteUnit, FlushAll, Plan, Counted, contents_after, writes_after}
 
 -- the layout, a content and a number of successful writes for each unit, and the calls of each kind; a patch is a write
 pub record Device : Type 0 where

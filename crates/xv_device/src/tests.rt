@@ -99,7 +99,13 @@ fn carries_out_operations(rt: HostRuntime) -> Result<(), Fail> {
     let layout = Layout::new(2, 16, &[])?;
     let mut into = [0; 3];
     let mut device = one_filled(alloc, &layout)?;
-    carry_out(&mut device, &layout, 1, Some(Pattern::new(b"ab")), &mut into)?;
+    carry_out(
+        &mut device,
+        &layout,
+        1,
+        Some(Pattern::new(b"ab")),
+        &mut into,
+    )?;
     assert_eq!(rt; device.content(UnitId(1)), b"cabacdcdcdcdcdcd".as_slice());
     assert_eq!(rt; into.as_slice(), [0; 3].as_slice());
     let mut device = one_filled(alloc, &layout)?;
