@@ -3,7 +3,8 @@ use Rattle.std.specs.Prelude.{◌≡◌, ◌≤◌, ◌<◌, ℕ, ◌+◌, ◌==
 use Rattle.std.proofs.Common.{arith, refl, ap, sym, ◌∙◌, subst, inl, inr}
 use Rattle.std.proofs.lemmas.Bool.{and_right, cases_eq, cases_lt, eq-eqb, ne_eqb}
 use Rattle.std.proofs.lemmas.List.{get_or-set_same, get_or-set_other, set_past}
-use Rattle.xv_device.specs.Device.{DeviceCall, NoCall as NothingAsked, ReadRange, PatchRange, WriteUnit, FlushAll, Counted, write_count, writes_after, calls_after, is_listed, is_planned}
+use Rattle.xv_base.specs.Calls.{is_listed}
+use Rattle.xv_device.specs.Device.{DeviceCall, NoCall as NothingAsked, ReadRange, PatchRange, WriteUnit, FlushAll, Counted, write_count, writes_after, calls_after, is_planned}
 use Rattle.xv_device.specs.Told.{Told}
 use Rattle.xv_model.specs.Step.{SourceRead, SourceWrite, DestRead, DestWrite, DestFlush, same_call}
 use Rattle.xv_model.specs.Outside.{Part, Outside, NoOutside, ReadSource, WriteSource, ReadDest, WriteDest, FlushDest, PutOn, TakeFrom, PutBack, TakeBack, kind, is_source_write, is_dest_write}

@@ -4,7 +4,8 @@ use Rattle.std.proofs.Common.{arith, refl, ap, sym, ◌∙◌, subst, inl, inr}
 use Rattle.std.proofs.lemmas.Bool.{and_right, cases_eq, eq-eqb, ne_eqb, or_left, or_right, or_from}
 use Rattle.std.proofs.lemmas.List.{get_or-set_other}
 use Rattle.xv_base.specs.Units.{Shape}
-use Rattle.xv_wire.specs.Wire.{WireCall, PutBytes, TakeBytes, Counted, counted_after, is_listed, is_planned}
+use Rattle.xv_base.specs.Calls.{is_listed}
+use Rattle.xv_wire.specs.Wire.{WireCall, PutBytes, TakeBytes, Counted, counted_after, is_planned}
 use Rattle.xv_wire.specs.Told.{Told, told_after, Caused, CallMade}
 use Rattle.xv_frame.specs.Frame.{Message}
 use Rattle.xv_streams.specs.Taking.{TakesMade}

@@ -2,7 +2,8 @@
 use Rattle.std.specs.Prelude.{◌≡◌, ℕ, ◌+◌, ◌&&◌, Bool, true, false, List, [], ◌∷◌, ◌++◌, Option, Some, None, IfSome, count_by, if◌then◌else◌}
 use Rattle.std.proofs.Common.{arith, refl, ap, sym, ◌∙◌, subst}
 use Rattle.std.proofs.lemmas.List.Sums.{sum_by-cons}
-use Rattle.xv_device.specs.Device.{is_listed, Counted as DeviceCounted}
+use Rattle.xv_base.specs.Calls.{is_listed}
+use Rattle.xv_device.specs.Device.{Counted as DeviceCounted}
 use Rattle.xv_wire.specs.Wire.{Counted as WireCounted}
 use Rattle.xv_model.specs.Job.{Job}
 use Rattle.xv_model.specs.View.{View, first_view}

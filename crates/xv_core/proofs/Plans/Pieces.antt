@@ -4,7 +4,8 @@ use Rattle.std.proofs.Common.{arith, refl, ap, sym, ◌∙◌, subst}
 use Rattle.std.proofs.lemmas.Bool.{eq-eqb}
 use Rattle.xv_base.specs.Units.{Shape}
 use Rattle.xv_frame.specs.Frame.{AckFrame, spelled}
-use Rattle.xv_wire.specs.Wire.{Counted, is_listed}
+use Rattle.xv_base.specs.Calls.{is_listed}
+use Rattle.xv_wire.specs.Wire.{Counted}
 use Rattle.xv_model.specs.Job.{Job}
 use Rattle.xv_model.specs.View.{is_live}
 use Rattle.xv_model.specs.Wait.{Event}

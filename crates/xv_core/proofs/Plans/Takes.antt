@@ -3,7 +3,8 @@ use Rattle.std.specs.Prelude.{◌≡◌, ◌≤◌, ◌<◌, ℕ, ◌+◌, ◌-�
 use Rattle.std.proofs.Common.{arith, refl, ap, sym, ◌∙◌, subst, inl, inr}
 use Rattle.std.proofs.lemmas.Bool.{lt-ltb, cases_lt, false≢true, eq-eqb, ne_eqb, and_right}
 use Rattle.std.proofs.lemmas.List.{length_push}
-use Rattle.xv_wire.specs.Wire.{PutBytes, TakeBytes, Counted, left_past, is_inside, left_after, met_past, counted_after, front_piece, is_listed, is_planned}
+use Rattle.xv_base.specs.Calls.{is_listed}
+use Rattle.xv_wire.specs.Wire.{PutBytes, TakeBytes, Counted, left_past, is_inside, left_after, met_past, counted_after, front_piece, is_planned}
 use Rattle.xv_wire.specs.Told.{Told, told_after}
 use Rattle.xv_wire.specs.Lengths.{total, AreWide}
 use Rattle.xv_wire.proofs.Passing.{left-within, left-over, left-none, inside-over}

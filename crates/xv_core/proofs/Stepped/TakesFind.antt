@@ -12,7 +12,8 @@ use Rattle.xv_base.specs.declared.answer.Why.TheVariants.{NothingThere, NotNow}
 use Rattle.xv_frame.specs.Frame.{Message}
 use Rattle.xv_wire.specs.Told.{Told}
 use Rattle.xv_wire.specs.Lengths.{total}
-use Rattle.xv_wire.specs.Wire.{TakeBytes, Counted, is_listed, front_piece, is_planned}
+use Rattle.xv_base.specs.Calls.{is_listed}
+use Rattle.xv_wire.specs.Wire.{TakeBytes, Counted, front_piece, is_planned}
 use Rattle.xv_streams.specs.Taking.{AreOfOnePiece, TakesMade}
 use Rattle.xv_streams.specs.Streamed.{LaneSeen, no_lane, lane}
 use Rattle.xv_streams.specs.Carried.{IsCarried}
