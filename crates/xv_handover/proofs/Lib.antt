@@ -1,4 +1,5 @@
 pub mod Aborts
+pub mod Programs
 pub mod Progress
 pub mod Sayings
 pub mod Scripts
