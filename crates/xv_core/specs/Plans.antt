@@ -1,6 +1,6 @@
 -- That a journal's entries are flagged exactly where the plans that are told have the numbers of their calls.
 use Rattle.std.specs.Prelude.{◌≡◌, ◌≤◌, ℕ, ◌+◌, ◌-◌, ◌&&◌, Bool, true, false, List, [], ◌∷◌, length, map, IfSome, if◌then◌else◌}
-use Rattle.xv_device.specs.Device.{is_listed}
+use Rattle.xv_base.specs.Calls.{is_listed}
 use Rattle.xv_wire.specs.Wire.{Counted}
 use Rattle.xv_frame.specs.Frame.{Message, Each, spelled}
 use Rattle.xv_streams.specs.Streamed.{lane}

@@ -167,7 +167,7 @@ impl<S: UnitDevice, T: UnitDevice, W: Wire> Migration<S, T, W> {
         }
     }
 
-    /// What it was made of, as it is now.
+    /// What it was made of, as it is now: the job, and the devices and wires with all that they tell and their faults.
     pub fn into_parts(self) -> Parts<S, T, W>
         ensures job { result.job ≡ self.job }
         ensures source { S.told result.source ≡ self.source.told }
@@ -175,7 +175,9 @@ impl<S: UnitDevice, T: UnitDevice, W: Wire> Migration<S, T, W> {
         ensures dest { T.told result.dest ≡ self.dest.told }
         ensures dest_faults { T.faults result.dest ≡ self.dest.faults }
         ensures wires { map W.told result.wires.items ≡ map (λ w. w.told) self.wires }
+        ensures wire_faults { map W.faults result.wires.items ≡ map (λ w. w.faults) self.wires }
         ensures back { W.told result.back ≡ self.back.told }
+        ensures back_faults { W.faults result.back ≡ self.back.faults }
     {
         Parts {
             job: self.job,

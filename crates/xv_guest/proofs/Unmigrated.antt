@@ -16,7 +16,7 @@ use Rattle.xv_trace.specs.Operations.{count_all, no_unit_op}
 use Rattle.xv_trace.specs.OpText.{Program}
 use Rattle.xv_trace.proofs.Counts.{length-all_unit_operations}
 use Rattle.xv_model.specs.Job.{Job}
-use Rattle.xv_model.specs.Guest.{is_done, writes_to, initial_by, overlaid}
+use Rattle.xv_model.specs.Guest.{is_done, writes_to, overlaid}
 use Rattle.xv_model.specs.Contents.{unit_content, after_operation, read_of}
 use Rattle.xv_model.proofs.Contents.Histories.{operation_of}
 use Rattle.xv_model.proofs.Histories.{ended-push_same, ended-push_other, ended-take-le}
@@ -132,18 +132,13 @@ pub record IsRunTo (shape : Shape) (init : List Init) (programs : List Program) 
   pub next_are : (guest : ℕ) → guest < 2 ^ 8 → slice_index next guest ≡ ended (take i history) guest
   pub follows : (job : Job) → IsJobOf job shape init programs → IsUnmigrated job (take i history) (plain_of device read)
 
-first_is_initial : (init : List Init) (bytes unit : ℕ) → first_content init bytes unit ≡ initial_by init bytes unit
-first_is_initial [] bytes unit = refl
-first_is_initial (i ∷ is) bytes unit = ap (λ (c : List ℕ). if i.unit.0 == unit then repeated i.pattern bytes else c) (first_is_initial is bytes unit)
-
 first_follows : (shape : Shape) (init : List Init) (programs : List Program) (job : Job) → IsJobOf job shape init programs → (unit : ℕ) → unit < units job.shape
-    → unit_content (first_contents shape init) unit ≡ initial_by job.init (size job.shape unit) unit
+    → unit_content (first_contents shape init) unit ≡ first_content job.init (size job.shape unit) unit
 first_follows shape init programs job j unit lt =
     let P : Shape → Type 0 = λ s. unit < units s in
     get_or-map-range_with_len (λ (u : ℕ). first_content init (size shape u) u) 0 (units shape) unit unit [] (subst P j.shape_is lt) (omega arith)
-    ∙ first_is_initial init (size shape unit) unit
-    ∙ ap (λ (is : List Init). initial_by is (size shape unit) unit) (sym j.init_is)
-    ∙ ap (λ (s : Shape). initial_by job.init (size s unit) unit) (sym j.shape_is)
+    ∙ ap (λ (is : List Init). first_content is (size shape unit) unit) (sym j.init_is)
+    ∙ ap (λ (s : Shape). first_content job.init (size s unit) unit) (sym j.shape_is)
 
 abbrev pub sure_device : Shape → List Init → Device
 sure_device shape init = fresh shape init (record { reads = []; writes = []; flushes = [] })

@@ -44,9 +44,6 @@ may-go h d copy goes same within =
     let room : length h.messages + copy.region.region ≤ h.config.outbox = subst (λ (k : Disk). length h.messages + k.region ≤ h.config.outbox) (sym same) g.has_room in
     record { some = some; all = omega arith; room = omega arith }
 
-pub ready-is : (h : Source) (copy : DiskCopy) → MayGo h copy → is_ready copy.region ≡ true
-ready-is h copy may = and_from _ _ (lt-ltb 0 copy.region.region may.some) (eq-eqb (length copy.region.read) copy.region.region may.all)
-
 -- its units are blocks of the disk, each of the size of its places
 module _ (s : Shape) (most d : ℕ) (copy : DiskCopy) (of : IsCopyOf s most d copy) (lt : d < length s.disks) (some : 0 < copy.region.region) (all : length copy.region.read ≡ copy.region.region) where
   pub units-in : unit_of_block s d copy.region.cursor + length copy.region.read ≤ units s

@@ -2,7 +2,6 @@
 use Rattle.std.specs.Prelude.{◌≡◌, ◌≤◌, ◌<◌, ◌⊎◌, ℕ, ◌==◌, ◌&&◌, ◌^◌, ◌-◌, min, nat_le, nat_lt, not, Bool, true, false, List, [], ◌∷◌, take, length, Option, Some, None, IfSome, if◌then◌else◌}
 use Rattle.xv_base.specs.Units.{Shape, is_page, size}
 use Rattle.xv_base.specs.Pattern.{repeated}
-use Rattle.xv_base.specs.declared.answer.Turn.TheVariants.{Done, Queued, Faulted, Wait, Failed}
 use Rattle.xv_base.specs.declared.event.Event.TheVariants.{Guest, Begin, Read, Advance, Release, Round, Page, Send, Deliver, Apply, Ack, Credit, Stun, Switch, Cancel}
 use Rattle.xv_frame.specs.Frame.{Message, message}
 use Rattle.xv_device.specs.Device.{DeviceCall, range_of}
@@ -14,6 +13,7 @@ use Rattle.xv_model.specs.View.{View, UnitHead, disk, in_queue, is_empty, is_run
 use Rattle.xv_model.specs.Wait.{Event, cancel_due, is_before}
 use Rattle.xv_model.specs.Effect.{Turn, with_disk, front_gone}
 use Rattle.xv_model.specs.Step.{turn, step, is_flagged, is_wait}
+pub use Rattle.xv_model.specs.Step.{went_out}
 use Rattle.xv_model.specs.Contents.{Contents, step_contents}
 use Rattle.xv_source.specs.Half.{Source, IsSourceOf, HasSourceBytes, AreWhole}
 
@@ -71,14 +71,6 @@ pub record StepsSource (job : Job) (v : View) (event : Event) (answer : Turn) (o
   pub bytes : (c : Contents) → is_flagged answer ≡ false → HasSourceBytes c old → AreWhole old.shape c.source → HasSourceBytes (step_contents job v event false c) new
   pub failed : is_flagged answer ≡ true → IsSourceOf job (after_fault v event) new
   pub failed_bytes : (c : Contents) → is_flagged answer ≡ true → HasSourceBytes c old → HasSourceBytes c new
-
--- whether an answer tells of a call on the outside
-abbrev pub went_out : Turn → Bool
-went_out (Done n) = true
-went_out Queued = false
-went_out Faulted = true
-went_out (Wait why) = false
-went_out (Failed cause) = true
 
 -- exactly this call was made of the device where the answer tells of one, and failed where it says so; else none was
 pub record MakesCall (call : DeviceCall) (answer : Turn) (old new : Source) : Type 0 where

@@ -144,7 +144,7 @@ text_of-cut text front back cut =
     ∙ ap (λ xs. xs ++ text_of (lines_of back)) (line-fields front)
     ∙ append_assoc front (10 ∷ []) (text_of (lines_of back))
 
-some_line : (text : List ℕ) → list_any (λ b. b == 10) text ≡ true → 0 < length (whole_lines text)
+pub some_line : (text : List ℕ) → list_any (λ b. b == 10) text ≡ true → 0 < length (whole_lines text)
 some_line [] h = absurd (cc)
 some_line (b ∷ text) h = elim (cases_Bool (b == 10)) [
   | inl feed ↦ rw feed (omega arith)

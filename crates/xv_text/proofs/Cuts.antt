@@ -1,39 +1,42 @@
 -- A text is cut into lines, and a line into fields, at the first byte of a kind.
-use Rattle.std.proofs.Common.{◌≡◌, ◌==◌, ◌<◌, ◌≤◌, ℕ, suc, ◌+◌, ◌-◌, Bool, true, false, not, List, [], ◌∷◌, ◌++◌, length, take, drop, get_or, drop-cons, Option, Some, None, refl, sym, ap, ◌∙◌, arith, if◌then◌else◌, add-one, inl, inr, IfSome, IfNone, IsTrue}
-use Rattle.std.specs.List.{list_any}
-use Rattle.std.proofs.lemmas.Bool.{cases_Bool, or_parts, or_from, or_left, false_from_ne_true, or_right, eq-eqb, eqb-true}
+use Rattle.std.proofs.Common.{◌≡◌, ◌==◌, ◌<◌, ◌≤◌, ℕ, suc, ◌+◌, ◌-◌, Bool, true, false, List, [], ◌∷◌, ◌++◌, length, take, drop, get_or, drop-cons, Option, Some, None, refl, sym, ap, ◌∙◌, arith, if◌then◌else◌, add-one, inl, inr, IfSome, IfNone, IsTrue}
+use Rattle.std.specs.List.{list_any, position, position_or_len}
+use Rattle.std.proofs.lemmas.List.Sums.{fails_before_first}
+use Rattle.std.proofs.lemmas.Grind.{common_steps}
+use Rattle.std.proofs.lemmas.List.Quantifiers.{position-Some}
+use Rattle.std.proofs.lemmas.Bool.{cases_Bool, or_parts, or_from, or_left, or_right, eq-eqb, eqb-true}
 use Rattle.std.proofs.lemmas.List.{length-append, length-take-le, take-append-drop, get_or-take}
-use Rattle.memchr.specs.Find.{NoneBefore, Nowhere, Passes, is_byte}
 use Rattle.std.proofs.lemmas.Slice.{between_to_end}
 use Rattle.xv_text.specs.Lines.{before_first, whole_lines, has_rest, fields}
-use Rattle.xv_text.specs.Fields.{is_empty}
 use Rattle.xv_text.specs.Cuts.{Lacks, IsCut}
 
 -- the first place of a byte cuts there
-lacks_everywhere : (byte : ℕ) (xs : List ℕ) → ((k : ℕ) → k < length xs → (get_or xs k 0 == byte) ≡ true → ⊥) → Lacks byte xs
+lacks_everywhere : (byte : ℕ) (xs : List ℕ) → ((k : ℕ) → k < length xs → (get_or xs k 0 == byte) ≡ false) → Lacks byte xs
 lacks_everywhere byte [] h = refl
 lacks_everywhere byte (x ∷ xs) h =
-    or_from (x == byte) (list_any (λ b. b == byte) xs) (false_from_ne_true _ (h 0 (omega arith))) (lacks_everywhere byte xs (λ k lt. h (suc k) (omega arith)))
+    or_from (x == byte) (list_any (λ b. b == byte) xs) (h 0 (omega arith)) (lacks_everywhere byte xs (λ k lt. h (suc k) (omega arith)))
 
-lacks_before : (byte : ℕ) (xs : List ℕ) (n : ℕ) → n ≤ length xs → ((k : ℕ) → 0 ≤ k → k < n → ¬ ((get_or xs k 0 == byte) ≡ true)) → Lacks byte (take n xs)
+lacks_before : (byte : ℕ) (xs : List ℕ) (n : ℕ) → n ≤ length xs → ((k : ℕ) → k < n → (get_or xs k 0 == byte) ≡ false) → Lacks byte (take n xs)
 lacks_before byte xs n fits h =
     lacks_everywhere byte (take n xs) (λ k lt.
     let below : k < n = omega (arith, length-take-le n xs fits) in
-    let same : get_or (take n xs) k 0 ≡ get_or xs k 0 = get_or-take n xs k 0 below in
-    λ e. h k (omega arith) below (ap (λ x. x == byte) (sym same) ∙ e))
+    ap (λ x. x == byte) (get_or-take n xs k 0 below) ∙ h k below)
 
-pub cut_at_place : (byte : ℕ) (text : List ℕ) (n : ℕ) → NoneBefore (Passes (is_byte byte) text) 0 (length text) n → Passes (is_byte byte) text n
+pub cut_at_place : (byte : ℕ) (text : List ℕ) (n : ℕ) → position (λ b. b == byte) text ≡ Some n
     → IsCut byte text (take n text) (take (length text - (n + 1)) (drop (n + 1) text))
-cut_at_place byte text n none here =
-    let there : n < length text = none.high in
+cut_at_place byte text n found =
+    let at = position-Some (λ b. b == byte) text n 0 found in
+    let there : n < length text = at.0 in
     rw (between_to_end text (n + 1) (length text) (omega arith))
     (record {
-      whole = sym (take-append-drop n text) ∙ ap (λ xs. take n text ++ xs) (drop-cons text n 0 there ∙ ap (λ k. get_or text n 0 ∷ drop k text) (sym (add-one n)) ∙ ap (λ b. b ∷ drop (n + 1) text) (eqb-true _ _ here));
-      first = lacks_before byte text n (omega arith) none.before;
+      whole = sym (take-append-drop n text) ∙ ap (λ xs. take n text ++ xs) (drop-cons text n 0 there ∙ ap (λ k. get_or text n 0 ∷ drop k text) (sym (add-one n)) ∙ ap (λ b. b ∷ drop (n + 1) text) (eqb-true _ _ at.1));
+      first = lacks_before byte text n (omega arith) at.2;
     })
 
-pub cut_at_none : (byte : ℕ) (text : List ℕ) → Nowhere (Passes (is_byte byte) text) 0 (length text) → Lacks byte text
-cut_at_none byte text none = lacks_everywhere byte text (λ k lt. none k (omega arith) lt)
+pub cut_at_none : (byte : ℕ) (text : List ℕ) → position (λ b. b == byte) text ≡ None → Lacks byte text
+cut_at_none byte text none =
+    let past : length text ≤ position_or_len (λ b. b == byte) text = grind (arith, common_steps) in
+    lacks_everywhere byte text (λ k lt. fails_before_first (λ b. b == byte) text k 0 (omega arith))
 
 -- the lines of a text, and whether bytes stand behind them, from its first line feed on
 whole_lines-front : (front back : List ℕ) → Lacks 10 front → whole_lines (front ++ 10 ∷ back) ≡ front ∷ whole_lines back
@@ -65,10 +68,6 @@ has_rest-front (b ∷ front) back =
 
 pub has_rest-cut : (text front back : List ℕ) → IsCut 10 text front back → has_rest text ≡ has_rest back
 has_rest-cut text front back cut = ap has_rest cut.whole ∙ has_rest-front front back
-
-pub has_rest-none : (text : List ℕ) → Lacks 10 text → has_rest text ≡ not (is_empty text)
-has_rest-none [] h = refl
-has_rest-none (b ∷ text) h = rw h refl
 
 -- the fields of a line from its first space on
 fields-front : (front back : List ℕ) → Lacks 32 front → fields (front ++ 32 ∷ back) ≡ front ∷ fields back

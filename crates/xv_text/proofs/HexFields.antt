@@ -1,7 +1,7 @@
 -- Fields that say bytes: two hexadecimal digits a byte.
 use Rattle.std.proofs.Common.{◌≡◌, ◌==◌, ℕ, zero, suc, ◌+◌, ◌*◌, ◌/◌, ◌%◌, ◌<◌, ◌≤◌, Bool, true, false, List, [], ◌∷◌, ◌++◌, length, take, set, get_or, nat_le, if◌then◌else◌, refl, sym, ap, ◌∙◌, arith, inl, inr, ◌⊎◌, append_assoc}
 use Rattle.std.specs.List.{list_all}
-use Rattle.std.proofs.lemmas.Bool.{and_parts, and_from, eqb-true, eq-eqb, leb-true, le-leb, false_from_ne_true}
+use Rattle.std.proofs.lemmas.Bool.{and_parts, and_from, eqb-true, eq-eqb, leb-true, le-leb}
 use Rattle.std.proofs.lemmas.Bool.Decides.{nat_tests}
 use Rattle.std.proofs.lemmas.List.{take_more, take_more_set, length-take-le}
 use Rattle.xv_base.specs.Hex.{hex, hex_digit}
@@ -36,9 +36,6 @@ hex_parts field h =
 
 pub hex_from : (field : List ℕ) → IsHex field → is_hex field ≡ true
 hex_from field n = from_four _ _ _ _ n.digits (eq-eqb _ _ n.even) (le-leb _ _ n.some) (le-leb _ _ n.few)
-
-pub no_hex : (field : List ℕ) → (IsHex field → ⊥) → is_hex field ≡ false
-no_hex field h = false_from_ne_true _ (λ e. h (hex_parts field e))
 
 -- two digits more
 hex_bytes-push : (xs : List ℕ) (high low : ℕ) → length xs % 2 ≡ 0 → hex_bytes (xs ++ high ∷ low ∷ []) ≡ hex_bytes xs ++ (16 * hex_value high + hex_value low) ∷ []
@@ -81,12 +78,6 @@ pub digit_tells : (b v : ℕ) → v ≡ (if is_hex_digit b then hex_value b else
 digit_tells b v e h = elim (chosen (is_hex_digit b) (hex_value b) 255 v e) [
   | inl t ↦ t
   | inr f ↦ absurd (omega (arith, f.1))
-]
-
-pub no_digit_tells : (b v : ℕ) → v ≡ (if is_hex_digit b then hex_value b else 255) → 15 < v → is_hex_digit b ≡ false
-no_digit_tells b v e h = elim (chosen (is_hex_digit b) (hex_value b) 255 v e) [
-  | inl t ↦ absurd (omega (arith, t.1, hex_value_small b t.0))
-  | inr f ↦ f.0
 ]
 
 -- the bytes that digits stand for, and their digits

@@ -5,3 +5,4 @@ pub mod HexFields
 pub mod Rows
 pub mod Apart
 pub mod Spelled
+pub mod Progress

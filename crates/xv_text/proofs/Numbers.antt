@@ -93,15 +93,7 @@ number_short field h =
 pub no_number : (field : List ℕ) → (IsNumber field → ⊥) → is_number field ≡ false
 no_number field h = false_from_ne_true _ (λ e. h (number_parts field e))
 
--- one byte of them is no digit
-pub passes_at : (p : ℕ → Bool) (xs : List ℕ) (i : ℕ) → i < length xs → list_all p xs ≡ true → p (get_or xs i 0) ≡ true
-passes_at p [] i lt h = absurd (omega arith)
-passes_at p (x ∷ xs) zero lt h = (and_parts (p x) (list_all p xs) h).0
-passes_at p (x ∷ xs) (suc i) lt h = passes_at p xs i (omega arith) (and_parts (p x) (list_all p xs) h).1
-
-pub fails_at : (p : ℕ → Bool) (xs : List ℕ) (i : ℕ) → i < length xs → p (get_or xs i 0) ≡ false → list_all p xs ≡ false
-fails_at p xs i lt h = false_from_ne_true _ (λ e. let t = passes_at p xs i lt e in absurd (cc))
-
+-- digits with one more
 all_push : (p : ℕ → Bool) (xs : List ℕ) (y : ℕ) → list_all p xs ≡ true → p y ≡ true → list_all p (xs ++ y ∷ []) ≡ true
 all_push p [] y h e = and_from (p y) true e refl
 all_push p (x ∷ xs) y h e =

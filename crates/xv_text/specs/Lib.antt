@@ -4,3 +4,4 @@ pub mod Fields
 pub mod Row
 pub mod Print
 pub mod Reading
+pub mod Words

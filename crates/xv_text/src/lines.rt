@@ -1,11 +1,9 @@
 //! A text as lines.
 
-ghost use Rattle.std.specs.Prelude.{◌≡◌, ◌<◌, [], ◌∷◌, ◌++◌, not, length, IfSome, IfNone};
+ghost use Rattle.std.specs.Prelude.{◌≡◌, ◌==◌, ◌<◌, [], ◌∷◌, ◌++◌, not, length, position, IfSome, IfNone};
 ghost use Rattle.xv_text.specs.Lines.{whole_lines, has_rest};
 ghost use Rattle.xv_text.specs.Fields.{is_empty};
 ghost use Rattle.xv_text.specs.Cuts.{Lacks, IsCut};
-
-use memchr::memchr;
 
 /// The line that a text begins with, without its line feed, and the text behind it; none where no line feed is
 /// left.
@@ -25,8 +23,15 @@ pub(crate) fn cut_at(bytes: &[u8], byte: u8) -> Option<(&[u8], &[u8])>
     ensures found { IfSome result (λ found. IsCut byte bytes.now found.0.now found.1.now) }
     ensures none { IfNone result (Lacks byte bytes.now) }
 {
-    match memchr(byte, bytes) {
+    match place_of(bytes, byte) {
         Some(place) => Some((&bytes[..place], &bytes[place + 1..])),
         None => None,
     }
+}
+
+/// The first place of a byte; none where there is no such byte.
+fn place_of(bytes: &[u8], byte: u8) -> Option<usize>
+    ensures { result ≡ position (λ b. b == byte) bytes.now }
+{
+    bytes.iter().position(|b| *b == byte)
 }

@@ -1,5 +1,5 @@
 use Rattle.xv_core.specs.State.{state_of}
-use Rattle.xv_core.proofs.SourceWaits.{copy-not-now, copy-of-source, copy-waits, seen-waits}
+use Rattle.xv_core.proofs.CopyingEvents.SourceWaits.{copy-not-now, copy-of-source, copy-waits, seen-waits}
 use Rattle.xv_core.proofs.migration.Migration.copy_wait.Goals as goal
 
 pub returns-then-not-is_asked : goal.returns-then-not-is_asked

@@ -1,5 +1,5 @@
 use Rattle.std.proofs.Common.{refl, sym, ◌∙◌}
-use Rattle.xv_core.proofs.OperationWaits.{allows-of, running-is}
+use Rattle.xv_core.proofs.GuestEvents.OperationWaits.{allows-of, running-is}
 use Rattle.xv_core.proofs.migration.Migration.guest_wait.Goals as goal
 
 pub returns-then-is_full : goal.returns-then-is_full

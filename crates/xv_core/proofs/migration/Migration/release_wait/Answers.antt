@@ -2,8 +2,8 @@ use Rattle.std.specs.Prelude.{◌≡◌, ◌==◌, false, not, is_none}
 use Rattle.std.proofs.Common.{ap, sym, ◌∙◌}
 use Rattle.xv_job.specs.Written.{job_of}
 use Rattle.xv_core.specs.Seen.{Seen}
-use Rattle.xv_core.proofs.ReleaseTurns.{disks-there}
-use Rattle.xv_core.proofs.OperationWaits.{allows-of, running-is, release-lets}
+use Rattle.xv_core.proofs.GuestEvents.ReleaseTurns.{disks-there}
+use Rattle.xv_core.proofs.GuestEvents.OperationWaits.{allows-of, running-is, release-lets}
 use Rattle.xv_core.proofs.migration.Migration.release_wait.Goals as goal
 
 pub front-requires : goal.front-requires

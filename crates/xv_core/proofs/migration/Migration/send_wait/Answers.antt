@@ -1,6 +1,6 @@
 use Rattle.std.proofs.Common.{◌==◌, refl, sym, ◌∙◌}
 use Rattle.xv_core.specs.State.{state_of}
-use Rattle.xv_core.proofs.MovedWaits.{send-waits}
+use Rattle.xv_core.proofs.MovingEvents.Waits.{send-waits}
 use Rattle.xv_core.proofs.migration.Migration.send_wait.Goals as goal
 
 pub returns : goal.returns

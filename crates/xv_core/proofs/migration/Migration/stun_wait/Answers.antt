@@ -1,5 +1,5 @@
 use Rattle.xv_core.specs.State.{state_of}
-use Rattle.xv_core.proofs.SourceWaits.{stun-waits}
+use Rattle.xv_core.proofs.CopyingEvents.SourceWaits.{stun-waits}
 use Rattle.xv_core.proofs.migration.Migration.stun_wait.Goals as goal
 
 pub returns : goal.returns
