@@ -72,12 +72,12 @@ goes : (job : Job) (v : View) (guest : GuestId) → IsFree job v guest.0 → wai
 goes job v guest f = rw (f.more, f.no_queue, f.phase, and-false) refl
 
 -- the content that a write of a whole block replaces has the size of what is written
-block_is : (s : Shape) (op : UnitOp) (told : Told) → IsLegal s op → told.shape ≡ s → is_some told.contents ≡ true → (is_some op.write ≡ true → IsSized told)
+block_is : (s : Shape) (op : UnitOp) (told : Told) → IsLegal s op → told.shape ≡ s → is_some told.contents ≡ true → IsSized told
     → is_some op.write ≡ true → is_page s op.unit.0 ≡ false → (op.offset ≡ 0) × (op.len ≡ length (unit_content (unwrap_or told.contents []) op.unit.0))
 block_is s op told legal shape tells sized writes block =
     let whole = legal.whole_block writes block in
     let full : (unit : ℕ) → unit < units told.shape → length (unit_content (unwrap_or told.contents []) unit) ≡ size told.shape unit =
-    told_of told.contents (λ cs. (unit : ℕ) → unit < units told.shape → length (content cs unit) ≡ size told.shape unit) tells (sized writes).full in
+    told_of told.contents (λ cs. (unit : ℕ) → unit < units told.shape → length (content cs unit) ≡ size told.shape unit) tells sized.full in
     let in' : op.unit.0 < units told.shape = subst (λ (x : Shape). op.unit.0 < units x) (sym shape) legal.unit_is in
     (whole.0, whole.1 ∙ sym (full op.unit.0 in' ∙ ap (λ (x : Shape). size x op.unit.0) shape))
 
@@ -87,7 +87,7 @@ pub record Operated (s : Shape) (op : UnitOp) (failed : Bool) (old new : Dest) :
   pub contents : new.contents ≡ old.contents
   pub shape : old.told.shape ≡ s
   pub legal : IsLegal s op
-  pub sized : is_some op.write ≡ true → IsSized old.told
+  pub sized : IsSized old.told
 
 failed-has : (c : Contents) (s : Shape) (op : UnitOp) (old new : Dest) → Operated s op true old new → HasDestBytes c old → HasDestBytes c new
 failed-has c s op old new o has =

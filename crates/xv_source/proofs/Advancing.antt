@@ -1,7 +1,6 @@
 -- A region that is sent off, in the fields and as the machine's step.
-use Rattle.std.specs.Prelude.{◌≡◌, ◌≤◌, ◌<◌, Bool, ℕ, zero, suc, ◌+◌, ◌-◌, true, false, List, [], ◌∷◌, ◌++◌, length, map, set, get_or, None}
+use Rattle.std.specs.Prelude.{◌≡◌, ◌≤◌, ◌<◌, Bool, ℕ, zero, suc, ◌+◌, ◌-◌, false, List, [], ◌∷◌, ◌++◌, length, map, set, get_or, None}
 use Rattle.std.proofs.Common.{refl, sym, ap, subst, ◌∙◌, arith}
-use Rattle.std.proofs.lemmas.Bool.{lt-ltb, eq-eqb, and_from}
 use Rattle.std.proofs.lemmas.List.{take_all}
 use Rattle.xv_base.specs.Units.{Shape, units, size, blocks, unit_of_block}
 use Rattle.xv_base.specs.declared.limits.Config.{Config}
@@ -15,7 +14,7 @@ use Rattle.xv_model.specs.View.{View, number, Disk, Outbox as Box, UnitHead, no_
 use Rattle.xv_model.specs.Effect.{made_run, advanced}
 use Rattle.xv_model.proofs.GoesOn.{advance_goes}
 use Rattle.xv_outbox.specs.Messages.{Outbox, Message, heads, contents}
-use Rattle.xv_region.specs.Copying.{Copying, is_ready}
+use Rattle.xv_region.specs.Copying.{Copying}
 use Rattle.xv_source.specs.declared.disk.DiskCopy.{DiskCopy}
 use Rattle.xv_source.specs.Half.{Source, with_limits, with_source}
 use Rattle.xv_source.specs.Kept.{numbers_of, IsCopyOf, IsKept}

@@ -1,11 +1,10 @@
 -- Whether all disks are copied, and whether nobody waits for any, disk by disk.
 use Rattle.std.specs.Prelude.{◌≡◌, ◌<◌, ℕ, zero, suc, ◌+◌, ◌==◌, ◌&&◌, ◌||◌, Bool, true, false, List, [], ◌∷◌, length, map, drop, get_or}
 use Rattle.std.proofs.Common.{refl, ap, sym, ◌∙◌, arith, add-one}
-use Rattle.std.proofs.lemmas.List.{drop_all}
 use Rattle.std.specs.List.{list_any}
 use Rattle.xv_base.specs.declared.unit.DiskShape.{DiskShape}
 use Rattle.xv_base.specs.Units.{blocks}
-use Rattle.xv_model.specs.View.{Disk, Waiting, no_disk, is_copied, is_empty, waits_for, in_queue, all_copied_by, queues_empty}
+use Rattle.xv_model.specs.View.{Disk, Waiting, no_disk, is_copied, waits_for, in_queue, all_copied_by, queues_empty}
 
 -- the same of the disks from one on
 abbrev pub copied-from : List DiskShape → List Disk → ℕ → Bool
