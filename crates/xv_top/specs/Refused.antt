@@ -1,6 +1,7 @@
 -- How an input is refused: by its length, or by its first faulty line, of the job or behind it of the script.
 use Rattle.std.specs.Prelude.{ℕ, ◌+◌, nat_lt, Bool, true, false, List, [], ◌∷◌, ◌++◌, length, drop, codes, decimal, Option, Some, None, if◌then◌else◌}
 use Rattle.xv_base.specs.declared.limits.TheConstants.{MOST_INPUT}
+use Rattle.xv_text.specs.declared.limits.TheConstants.{LIMIT_OF_INPUT}
 use Rattle.xv_base.specs.declared.text.LineWhy.{LineWhy}
 use Rattle.xv_base.specs.declared.text.LineWhy.TheVariants.{Unended, BadWord, Order, BadNumber, BadHex, Limit, OutOfRange, CrossesPage, TooMany}
 use Rattle.xv_base.specs.declared.text.LineFault.{LineFault}
@@ -35,7 +36,7 @@ lines_fault lines rest =
 
 abbrev pub input_fault : List ℕ → Option LineFault
 input_fault bytes =
-    if nat_lt input_limit (length bytes) then Some (record { line = 0; why = Limit 1 })
+    if nat_lt input_limit (length bytes) then Some (record { line = 0; why = Limit LIMIT_OF_INPUT })
     else lines_fault (lines_of bytes) (has_rest bytes)
 
 -- the line of a refusal

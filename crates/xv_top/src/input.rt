@@ -13,6 +13,7 @@ use xv_base::{LineFault, LineWhy, MOST_INPUT, TextError};
 use xv_io::{ReadAll, Source, read_all};
 use xv_job::{Job, read_job};
 use xv_script::{Line, read_events};
+use xv_text::LIMIT_OF_INPUT;
 
 /// Why there is no job to run.
 #[derive(Clone, Copy)]
@@ -59,11 +60,11 @@ pub fn read_bytes<I: Source>(alloc: Global, input: &mut I) -> Result<Vec<u8>, In
 
 /// The fault of an input of too many bytes.
 fn too_long() -> LineFault
-    ensures { result ≡ record { line = 0; why = LineWhy.Limit 1 } }
+    ensures { result ≡ record { line = 0; why = LineWhy.Limit LIMIT_OF_INPUT } }
 {
     LineFault {
         line: 0,
-        why: LineWhy::Limit(1),
+        why: LineWhy::Limit(LIMIT_OF_INPUT),
     }
 }
 
