@@ -1,8 +1,7 @@
 -- A message taken off a lane of unit frames.
-use Rattle.std.proofs.Common.{◌≡◌, ℕ, ◌+◌, ◌-◌, ◌<◌, ◌≤◌, List, [], ◌∷◌, ◌++◌, length, take, drop, map, sym, ap, ◌∙◌, arith, refl, subst, Bool, true, false, Some, None, Ok, Err, length-append}
+use Rattle.std.proofs.Common.{◌≡◌, ℕ, ◌+◌, ◌-◌, ◌<◌, ◌≤◌, List, [], ◌∷◌, ◌++◌, length, take, drop, map, sym, ap, ◌∙◌, arith, refl, subst, Bool, false, Some, Ok, length-append}
 use Rattle.std.proofs.lemmas.List.{append-nil, take_at, drop_at}
 use Rattle.std.proofs.lemmas.Option.{none-some}
-use Rattle.xv_base.specs.declared.unit.Failed.{Failed}
 use Rattle.xv_base.specs.declared.operation.UnitHead.{UnitHead}
 use Rattle.xv_base.specs.Units.{Shape, units, size, max_size}
 use Rattle.xv_base.specs.Layout.{IsGood}

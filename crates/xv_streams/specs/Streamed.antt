@@ -6,7 +6,7 @@ use Rattle.xv_base.specs.declared.unit.Failed.{Failed}
 use Rattle.xv_base.specs.declared.limits.TheConstants.{MOST_GROUP, SINGLE_FORMAT, GROUP_FORMAT}
 use Rattle.xv_base.specs.Units.{Shape, units, size, max_size}
 use Rattle.xv_frame.specs.declared.codes.TheConstants.{HEAD_SIZE, ENTRY_HEAD_SIZE}
-use Rattle.xv_frame.specs.Frame.{Message, message, IsMessage, Frame, UnitFrame, AckFrame, GroupFrame, Each, spelled}
+use Rattle.xv_frame.specs.Frame.{Message, IsMessage, Frame, UnitFrame, AckFrame, GroupFrame, Each, spelled}
 use Rattle.xv_frame.specs.Reading.{frames_in}
 use Rattle.xv_wire.specs.Wire.{PutBytes}
 use Rattle.xv_wire.specs.Told.{Told, CallMade}

@@ -1,5 +1,5 @@
 -- Some takes of a wire, one after another, seen as one.
-use Rattle.std.specs.Prelude.{◌≡◌, ℕ, ◌<◌, ◌≤◌, Bool, ◌&&◌, true, false, nat_lt, List, [], ◌∷◌, length, IfSome}
+use Rattle.std.specs.Prelude.{◌≡◌, ℕ, ◌<◌, ◌≤◌, Bool, ◌&&◌, true, nat_lt, List, [], ◌∷◌, length, IfSome}
 use Rattle.xv_wire.specs.Wire.{TakeBytes, Counted, is_planned}
 use Rattle.xv_wire.specs.Told.{Told, told_after, Caused}
 
