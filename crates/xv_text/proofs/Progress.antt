@@ -176,7 +176,7 @@ one_below : (why : Option LineWhy) (n k : ℕ) → n ≤ k → one_more_unless w
 one_below None n k h = omega arith
 one_below (Some why) n k h = omega arith
 
-count_below : {S : Type 0} (r : Reader S) (s : S) (ls : List (List (List ℕ))) → line_count r s ls ≤ length ls
+pub count_below : {S : Type 0} (r : Reader S) (s : S) (ls : List (List (List ℕ))) → line_count r s ls ≤ length ls
 count_below r s [] = omega arith
 count_below r s (l ∷ ls) = elim (cases_Bool (r.is_ended s)) [
   | inl ended ↦ rw ended (omega arith)

@@ -4,7 +4,7 @@ use Rattle.xv_job.specs.Draft.{line_fault}
 use Rattle.xv_job.specs.Held.{draft_held, behind_fault, job_held}
 use Rattle.xv_job.specs.Words.{may_come}
 use Rattle.xv_job.proofs.ReachedAt.{last_there, op_in_traces, fault_behind, stops_as, reached_by}
-use Rattle.xv_job.proofs.held.Held.read_line.Goals as goal
+use Rattle.xv_job.proofs.held.Held.take_line.Goals as goal
 
 pub may_come-requires : goal.may_come-requires
 may_come-requires c = last_there (draft_held c.args.self.now) c.requires.reached
