@@ -5,4 +5,7 @@ pub mod Pattern
 pub mod Padded
 pub mod Status
 pub mod Hex
+pub mod Initial
+pub mod Legal
 pub mod Calls
+pub mod Message

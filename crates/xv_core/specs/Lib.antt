@@ -8,7 +8,6 @@ pub mod Plans
 pub mod Rising
 pub mod Starting
 pub mod Kept
-pub mod Waiting
 pub mod Stepped
 pub mod Keeping
 pub mod Beginning

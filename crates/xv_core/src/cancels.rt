@@ -1,17 +1,10 @@
 //! Where the history stands against the number at which a job is to be cancelled, if it has one.
 
 ghost use Rattle.std.specs.Prelude.{◌≡◌};
-ghost use Rattle.xv_model.specs.Wait.{is_before, reaches, has_cancel};
+ghost use Rattle.xv_model.specs.Wait.{is_before, reaches};
 ghost use Rattle.xv_job.specs.Written.{job_of};
 
 use xv_job::Job;
-
-/// Whether the job is to be cancelled at all.
-pub(crate) fn has_cancel(job: &Job) -> bool
-    ensures { result ≡ has_cancel (job_of job.now) }
-{
-    job.config.cancel.is_some()
-}
 
 /// Whether a history of this length has not come to the number.
 pub(crate) fn is_before_cancel(job: &Job, length: u32) -> bool

@@ -1,7 +1,7 @@
 //! The laws of what devices and wires count, and of their plans, each as the contract of a function that does nothing.
 
 ghost use Rattle.std.specs.Prelude.{◌≡◌, ℕ, ◌+◌, ◌&&◌, true, List, [], ◌∷◌, ◌++◌, length, if◌then◌else◌};
-ghost use Rattle.xv_device.specs.Device.{is_listed};
+ghost use Rattle.xv_base.specs.Calls.{is_listed};
 ghost use Rattle.xv_model.specs.Job.{Job, unit_count};
 ghost use Rattle.xv_model.specs.Wait.{Event};
 ghost use Rattle.xv_model.specs.Effect.{Turn};

@@ -30,7 +30,7 @@ pub(crate) fn keep(reads: &mut Vec<u8>, op: &UnitOp, turn: Turn, read: &[u8])
     requires long { is_some op.now.write ≡ false → op.now.len ≤ length read.now }
     requires room { length reads.old.items + length (read_by op.now turn read.now) ≤ vec_capacity reads.old }
     ensures bytes { reads.new.items ≡ reads.old.items ++ read_by op.now turn read.now }
-    ensures reserved { vec_capacity reads.old ≤ vec_capacity reads.new }
+    ensures reserved { vec_capacity reads.new ≡ vec_capacity reads.old }
 {
     if let Turn::Done(_) = turn
         && op.write.is_none()
@@ -43,10 +43,9 @@ pub(crate) fn keep(reads: &mut Vec<u8>, op: &UnitOp, turn: Turn, read: &[u8])
 fn append(reads: &mut Vec<u8>, bytes: &[u8])
     requires room { length reads.old.items + length bytes.now ≤ vec_capacity reads.old }
     ensures bytes { reads.new.items ≡ reads.old.items ++ bytes.now }
-    ensures reserved { vec_capacity reads.old ≤ vec_capacity reads.new }
+    ensures reserved { vec_capacity reads.new ≡ vec_capacity reads.old }
 {
-    match reads.extend_from_slice(bytes) {
-        Ok(()) => {}
-        Err(_) => unreachable!(),
+    for byte in bytes {
+        reads.push_reserved(*byte);
     }
 }

@@ -1,6 +1,6 @@
 //! What an event leaves behind beside its own effect.
 
-ghost use Rattle.std.specs.Prelude.{◌≡◌, ◌≤◌, ◌<◌, ◌++◌, true, false, length, vec_capacity, if◌then◌else◌};
+ghost use Rattle.std.specs.Prelude.{◌≡◌, ◌<◌, ◌++◌, true, false, length, vec_capacity, if◌then◌else◌};
 ghost use Rattle.xv_base.specs.declared.event.Phase.TheVariants.{Failed as FailedPhase};
 ghost use Rattle.xv_model.specs.View.{is_running, is_stunned, is_live};
 ghost use Rattle.xv_model.specs.Step.{entry_of, is_wait};
@@ -52,7 +52,7 @@ pub(crate) fn settle<S: UnitDevice>(
     requires room { is_wait turn ≡ false → length journal.old.items < vec_capacity journal.old }
     ensures answer { result ≡ turn }
     ensures journal { journal.new.items ≡ journal.old.items ++ entry_of event turn }
-    ensures reserved { vec_capacity journal.old ≤ vec_capacity journal.new }
+    ensures reserved { vec_capacity journal.new ≡ vec_capacity journal.old }
     ensures phase { phase.new ≡ (if is_failed turn then FailedPhase else phase.old) }
     ensures going { is_failed turn ≡ false → source.new ≡ source.old }
     ensures given_up { is_failed turn ≡ true → Abandoned source.old source.new }
@@ -70,13 +70,10 @@ pub(crate) fn settle<S: UnitDevice>(
 pub(crate) fn enter(journal: &mut Vec<Entry>, event: Event, turn: Turn)
     requires room { is_wait turn ≡ false → length journal.old.items < vec_capacity journal.old }
     ensures journal { journal.new.items ≡ journal.old.items ++ entry_of event turn }
-    ensures reserved { vec_capacity journal.old ≤ vec_capacity journal.new }
+    ensures reserved { vec_capacity journal.new ≡ vec_capacity journal.old }
 {
     if let Turn::Wait(_) = turn {
         return;
     }
-    match journal.push(Entry { event, turn }) {
-        Ok(()) => {}
-        Err(_) => unreachable!(),
-    }
+    journal.push_reserved(Entry { event, turn });
 }

@@ -16,7 +16,7 @@ use crate::migration::Migration;
 use crate::settling::is_live;
 use crate::starting::Parts;
 use crate::sums::{copied, issued_from, made_from, written};
-use xv_base::{Entry, Event, GuestId, Layout, Phase, Probe, Totals, UnitId};
+use xv_base::{Entry, Event, GuestId, Layout, MOST_GUESTS, Phase, Probe, Totals, UnitId};
 use xv_device::UnitDevice;
 use xv_guest::History;
 use xv_job::Job;
@@ -167,7 +167,7 @@ impl<S: UnitDevice, T: UnitDevice, W: Wire> Migration<S, T, W> {
         }
     }
 
-    /// What it was made of, as it is now.
+    /// What it was made of, as it is now: the job, and the devices and wires with all that they tell and their faults.
     pub fn into_parts(self) -> Parts<S, T, W>
         ensures job { result.job ≡ self.job }
         ensures source { S.told result.source ≡ self.source.told }
@@ -175,7 +175,9 @@ impl<S: UnitDevice, T: UnitDevice, W: Wire> Migration<S, T, W> {
         ensures dest { T.told result.dest ≡ self.dest.told }
         ensures dest_faults { T.faults result.dest ≡ self.dest.faults }
         ensures wires { map W.told result.wires.items ≡ map (λ w. w.told) self.wires }
+        ensures wire_faults { map W.faults result.wires.items ≡ map (λ w. w.faults) self.wires }
         ensures back { W.told result.back ≡ self.back.told }
+        ensures back_faults { W.faults result.back ≡ self.back.faults }
     {
         Parts {
             job: self.job,
@@ -232,7 +234,7 @@ fn has_ended(job: &Job, history: &History, guest: u8) -> bool
 /// How many guests a job has.
 pub(crate) fn guests(job: &Job) -> u8
     ensures exactly { result ≡ length (job_of job.now).traces }
-    ensures few { result ≤ 16 }
+    ensures few { result ≤ MOST_GUESTS }
 {
     let _ = job.operations();
     job.traces.len() as u8

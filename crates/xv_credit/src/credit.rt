@@ -64,8 +64,7 @@ impl Credit {
 
     /// Whether nothing is taken.
     pub fn is_whole(&self) -> bool
-        ensures exactly { result ≡ (self.now.left == self.now.whole) }
-        ensures within { self.now.left ≤ self.now.whole }
+        ensures { result ≡ (self.now.left == self.now.whole) }
     {
         self.left == self.whole
     }

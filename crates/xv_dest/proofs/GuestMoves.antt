@@ -1,5 +1,5 @@
 -- A guest's operation on the destination does to the contents what the machine says.
-use Rattle.std.proofs.Common.{◌≡◌, ◌<◌, ℕ, ◌+◌, ◌&&◌, Bool, true, false, not, List, [], ◌++◌, length, set, take, drop, Option, Some, None, refl, sym, ap, subst, ◌∙◌, arith}
+use Rattle.std.proofs.Common.{◌≡◌, ◌<◌, ◌≤◌, ℕ, ◌+◌, ◌&&◌, Bool, true, false, not, List, [], ◌++◌, length, set, take, drop, Option, Some, None, refl, sym, ap, subst, ◌∙◌, arith}
 use Rattle.std.specs.Prelude.{nat_le, unwrap_or, is_some}
 use Rattle.std.proofs.lemmas.List.{set-get_or, append-nil}
 use Rattle.std.proofs.Math.ListN.{drop_of_length-le}
@@ -8,12 +8,14 @@ use Rattle.xv_base.specs.declared.event.Event.TheVariants.{Guest}
 use Rattle.xv_base.specs.declared.unit.GuestId.{GuestId}
 use Rattle.xv_base.specs.declared.event.Phase.{Phase}
 use Rattle.xv_base.specs.declared.event.Phase.TheVariants.{Running, Stunned, Switched, Cancelled, Failed}
-use Rattle.xv_base.specs.Units.{Shape, units, size, is_page}
+use Rattle.xv_base.specs.Units.{Shape, units, size, max_size, is_page}
+use Rattle.xv_base.specs.Layout.{IsGood}
+use Rattle.xv_base.proofs.Partition.{has_greatest_size}
 use Rattle.xv_base.specs.Pattern.{repeated}
 use Rattle.xv_device.specs.Device.{content, contents_after}
 use Rattle.xv_device.specs.Told.{Told, CallMade, IsSized}
 use Rattle.xv_device.specs.Operations.{operation_call, operation_call_by}
-use Rattle.xv_device.proofs.Filling.{length-repeated}
+use Rattle.xv_base.proofs.Patterns.{length-repeated}
 use Rattle.xv_model.specs.Job.{Job, UnitOp, IsLegal, trace}
 use Rattle.xv_model.specs.Guest.{ended, overlaid}
 use Rattle.xv_model.specs.View.{View, is_switched, in_queue}
@@ -25,6 +27,10 @@ use Rattle.xv_dest.specs.Half.{Dest, HasDestBytes}
 use Rattle.xv_dest.specs.Step.{Allows, MovesDest}
 use Rattle.xv_dest.proofs.Steps.{moves-failing, moves-going}
 use Rattle.xv_dest.proofs.Telling.{tells_after, told_then, told_of}
+
+-- the bytes of an operation are no more than those of the greatest unit
+pub len_fits : (s : Shape) (op : UnitOp) → IsGood s → IsLegal s op → op.len ≤ max_size s
+len_fits s op good legal = omega (arith, (has_greatest_size s good).most op.unit.0 legal.unit_is, legal.in_unit)
 
 -- the call does to the contents what the operation does
 after-by : (s : Shape) (op : UnitOp) (write : Option (List ℕ)) (b : Bool) (xs : List (List ℕ)) → is_page s op.unit.0 ≡ b
@@ -72,12 +78,12 @@ goes : (job : Job) (v : View) (guest : GuestId) → IsFree job v guest.0 → wai
 goes job v guest f = rw (f.more, f.no_queue, f.phase, and-false) refl
 
 -- the content that a write of a whole block replaces has the size of what is written
-block_is : (s : Shape) (op : UnitOp) (told : Told) → IsLegal s op → told.shape ≡ s → is_some told.contents ≡ true → (is_some op.write ≡ true → IsSized told)
+block_is : (s : Shape) (op : UnitOp) (told : Told) → IsLegal s op → told.shape ≡ s → is_some told.contents ≡ true → IsSized told
     → is_some op.write ≡ true → is_page s op.unit.0 ≡ false → (op.offset ≡ 0) × (op.len ≡ length (unit_content (unwrap_or told.contents []) op.unit.0))
 block_is s op told legal shape tells sized writes block =
     let whole = legal.whole_block writes block in
     let full : (unit : ℕ) → unit < units told.shape → length (unit_content (unwrap_or told.contents []) unit) ≡ size told.shape unit =
-    told_of told.contents (λ cs. (unit : ℕ) → unit < units told.shape → length (content cs unit) ≡ size told.shape unit) tells (sized writes).full in
+    told_of told.contents (λ cs. (unit : ℕ) → unit < units told.shape → length (content cs unit) ≡ size told.shape unit) tells sized.full in
     let in' : op.unit.0 < units told.shape = subst (λ (x : Shape). op.unit.0 < units x) (sym shape) legal.unit_is in
     (whole.0, whole.1 ∙ sym (full op.unit.0 in' ∙ ap (λ (x : Shape). size x op.unit.0) shape))
 
@@ -87,7 +93,7 @@ pub record Operated (s : Shape) (op : UnitOp) (failed : Bool) (old new : Dest) :
   pub contents : new.contents ≡ old.contents
   pub shape : old.told.shape ≡ s
   pub legal : IsLegal s op
-  pub sized : is_some op.write ≡ true → IsSized old.told
+  pub sized : IsSized old.told
 
 failed-has : (c : Contents) (s : Shape) (op : UnitOp) (old new : Dest) → Operated s op true old new → HasDestBytes c old → HasDestBytes c new
 failed-has c s op old new o has =

@@ -1,5 +1,6 @@
 -- What the front of a stream does to the destination's half.
 use Rattle.std.specs.Prelude.{◌≡◌, ℕ, ◌==◌, List, [], ◌∷◌, ◌++◌, length, get_or, if◌then◌else◌}
+use Rattle.xv_base.specs.declared.limits.TheConstants.{SINGLE_FORMAT}
 use Rattle.xv_base.specs.declared.answer.Turn.TheVariants.{Done, Queued, Faulted, Wait, Failed}
 use Rattle.xv_base.specs.declared.answer.Why.TheVariants.{NothingThere}
 use Rattle.xv_base.specs.declared.answer.Cause.TheVariants.{Take}
@@ -19,7 +20,7 @@ first_head group = get_or (heads_of group) 0 no_message
 
 abbrev pub group_told : ℕ → List Message → Note
 group_told format group =
-    if format == 1 then record { a = (first_head group).unit.0; b = (first_head group).version }
+    if format == SINGLE_FORMAT then record { a = (first_head group).unit.0; b = (first_head group).version }
     else record { a = length (heads_of group); b = (first_head group).unit.0 }
 
 -- The front of a stream's groups arrived, as the answer says: all its messages where the event is done, and nothing where

@@ -1,6 +1,5 @@
 -- What each event does to the destination's half.
 use Rattle.std.specs.Prelude.{◌≡◌, ℕ, ◌&&◌, nat_le, not, Bool, true, false, [], length, get_or}
-use Rattle.xv_base.specs.declared.answer.Turn.TheVariants.{Done, Queued, Faulted, Wait, Failed}
 use Rattle.xv_base.specs.declared.event.Event.TheVariants.{Guest, Begin, Read, Advance, Release, Round, Page, Send, Deliver, Apply, Ack, Credit, Stun, Switch, Cancel}
 use Rattle.xv_device.specs.Device.{DeviceCall, WriteUnit}
 use Rattle.xv_device.specs.Told.{CallMade}
@@ -10,6 +9,7 @@ use Rattle.xv_model.specs.View.{View, in_queue, is_stunned, is_switched, is_live
 use Rattle.xv_model.specs.Wait.{Event, has_cancel, may_switch}
 use Rattle.xv_model.specs.Effect.{Turn}
 use Rattle.xv_model.specs.Step.{turn, step, is_flagged, is_wait}
+pub use Rattle.xv_model.specs.Step.{went_out}
 use Rattle.xv_model.specs.Contents.{Contents, step_contents}
 use Rattle.xv_dest.specs.Half.{Dest, IsDestOf, HasDestBytes}
 
@@ -50,14 +50,6 @@ pub record StepsDest (job : Job) (v : View) (event : Event) (answer : Turn) (old
 pub record MovesDest (job : Job) (v : View) (c : Contents) (event : Event) (answer : Turn) (new : Dest) : Type 0 where
   pub moved : is_flagged answer ≡ false → HasDestBytes (step_contents job v event false c) new
   pub kept : is_flagged answer ≡ true → HasDestBytes c new
-
--- whether an answer tells of a call on the outside
-abbrev pub went_out : Turn → Bool
-went_out (Done n) = true
-went_out Queued = false
-went_out Faulted = true
-went_out (Wait why) = false
-went_out (Failed cause) = true
 
 -- exactly this call was made of the device where the answer tells of one, and failed where it says so; else none was
 pub record MakesCall (call : DeviceCall) (answer : Turn) (old new : Dest) : Type 0 where

@@ -1,6 +1,6 @@
 //! Writing what is held.
 
-ghost use Rattle.std.specs.Prelude.{◌≡◌, ℕ, ◌<◌, nat_lt, true, [], length, get_or, Some, None, if◌then◌else◌};
+ghost use Rattle.std.specs.Prelude.{◌≡◌, ◌<◌, nat_lt, true, [], length, get_or, Some, None, if◌then◌else◌};
 ghost use Rattle.xv_base.specs.Units.{units, size};
 ghost use Rattle.xv_base.specs.declared.event.Event.TheVariants.{Apply};
 ghost use Rattle.xv_device.specs.Told.{HasRoomToCount};
@@ -11,7 +11,7 @@ ghost use Rattle.xv_dest.specs.Half.{with_dest, HasDestBytes};
 ghost use Rattle.xv_dest.specs.Step.{Allows, StepsDest, MovesDest, MakesCall, went_out, ready_place, ready_write};
 
 use crate::dest::DestHalf;
-use xv_base::{Cause, Note, Turn, UnitHead, UnitId, Why};
+use xv_base::{Cause, MOST_CREDIT, Note, Turn, UnitHead, UnitId, Why};
 use xv_device::UnitDevice;
 
 impl<T: UnitDevice> DestHalf<T> {
@@ -19,7 +19,7 @@ impl<T: UnitDevice> DestHalf<T> {
     /// is none.
     /// Fails where the write failed, and nothing has changed.
     pub fn apply(&mut self) -> Turn
-        requires few { self.old.freed < 1024 }
+        requires few { self.old.freed < MOST_CREDIT }
         requires countable { HasRoomToCount self.old.told }
         ensures step { (job : Job) (v : View) → Allows job v Apply self.old → StepsDest job v Apply result self.old self.new }
         ensures bytes { (job : Job) (v : View) (c : Contents) → Allows job v Apply self.old → HasDestBytes c self.old → MovesDest job v c Apply result self.new }

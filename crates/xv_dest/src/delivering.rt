@@ -1,6 +1,6 @@
 //! Taking what has come over the streams.
 
-ghost use Rattle.std.specs.Prelude.{◌≡◌, ℕ, ◌+◌, ◌<◌, ◌++◌, ◌∷◌, [], length, set};
+ghost use Rattle.std.specs.Prelude.{◌≡◌, ◌+◌, ◌<◌, ◌++◌, ◌∷◌, [], length, set};
 ghost use Rattle.xv_base.specs.Units.{units, size};
 ghost use Rattle.xv_base.specs.declared.event.Event.TheVariants.{Deliver};
 ghost use Rattle.xv_model.specs.Job.{Job};
@@ -15,7 +15,7 @@ ghost use Rattle.xv_dest.specs.Step.{Allows, StepsDest, MovesDest, MakesNoCall};
 ghost use Rattle.xv_dest.specs.Arrival.{Arrives, with_group};
 
 use crate::dest::DestHalf;
-use xv_base::{Cause, Note, Turn, UnitHead, Why};
+use xv_base::{Cause, GROUP_FORMAT, Note, SINGLE_FORMAT, Turn, UnitHead, Why};
 use xv_device::UnitDevice;
 use xv_streams::Streams;
 use xv_wire::Wire;
@@ -33,7 +33,7 @@ impl<T: UnitDevice> DestHalf<T> {
         ensures others { streams.new ≡ record streams.old { lanes = set streams.old.lanes stream (lane streams.new stream); got = streams.new.got } }
         ensures taken { TakesFront self.old.shape (is_flagged result) (lane streams.old stream) (lane streams.new stream) }
     {
-        if streams.format() == 1 {
+        if streams.format() == SINGLE_FORMAT {
             self.deliver_message(stream, streams)
         } else {
             self.deliver_group(stream, streams)
@@ -44,9 +44,9 @@ impl<T: UnitDevice> DestHalf<T> {
     fn deliver_message<W: Wire>(&mut self, stream: u8, streams: &mut Streams<W>) -> Turn
         requires stream_in { stream < length streams.old.lanes }
         requires layout { streams.old.shape ≡ self.old.shape }
-        requires format { streams.old.format ≡ 1 }
+        requires format { streams.old.format ≡ SINGLE_FORMAT }
         requires may_take { CanTake self.old (heads_of (first_group (lane streams.old stream).groups)) }
-        ensures arrives { Arrives 1 stream result (lane streams.old stream).groups self.old self.new }
+        ensures arrives { Arrives SINGLE_FORMAT stream result (lane streams.old stream).groups self.old self.new }
         ensures others { streams.new ≡ record streams.old { lanes = set streams.old.lanes stream (lane streams.new stream); got = streams.new.got } }
         ensures taken { TakesFront self.old.shape (is_flagged result) (lane streams.old stream) (lane streams.new stream) }
     {
@@ -70,9 +70,9 @@ impl<T: UnitDevice> DestHalf<T> {
     fn deliver_group<W: Wire>(&mut self, stream: u8, streams: &mut Streams<W>) -> Turn
         requires stream_in { stream < length streams.old.lanes }
         requires layout { streams.old.shape ≡ self.old.shape }
-        requires format { streams.old.format ≡ 2 }
+        requires format { streams.old.format ≡ GROUP_FORMAT }
         requires may_take { CanTake self.old (heads_of (first_group (lane streams.old stream).groups)) }
-        ensures arrives { Arrives 2 stream result (lane streams.old stream).groups self.old self.new }
+        ensures arrives { Arrives GROUP_FORMAT stream result (lane streams.old stream).groups self.old self.new }
         ensures others { streams.new ≡ record streams.old { lanes = set streams.old.lanes stream (lane streams.new stream); got = streams.new.got } }
         ensures taken { TakesFront self.old.shape (is_flagged result) (lane streams.old stream) (lane streams.new stream) }
     {

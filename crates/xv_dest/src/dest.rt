@@ -1,6 +1,6 @@
 //! The destination's half of a migration, and what may be asked of it.
 
-ghost use Rattle.std.specs.Prelude.{◌≡◌, ◌≤◌, ◌<◌, ℕ, IfOk, IfErr};
+ghost use Rattle.std.specs.Prelude.{◌≡◌, ◌<◌, IfOk, IfErr};
 ghost use Rattle.xv_base.specs.Units.{units};
 ghost use Rattle.xv_model.specs.View.{number};
 ghost use Rattle.xv_dest.specs.Half.{fresh, unwritten};

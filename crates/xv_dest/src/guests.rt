@@ -1,6 +1,6 @@
 //! The switchover, and the guest's operations after it.
 
-ghost use Rattle.std.specs.Prelude.{◌≡◌, ℕ, ◌≤◌, true, false, length};
+ghost use Rattle.std.specs.Prelude.{◌≡◌, ◌≤◌, true, false, length};
 ghost use Rattle.xv_base.specs.declared.event.Event.TheVariants.{Guest, Switch};
 ghost use Rattle.xv_base.specs.declared.unit.GuestId.{GuestId};
 ghost use Rattle.xv_device.specs.Device.{FlushAll};
@@ -15,7 +15,7 @@ ghost use Rattle.xv_dest.specs.Half.{HasDestBytes};
 ghost use Rattle.xv_dest.specs.Step.{Allows, StepsDest, MovesDest, MakesCall, went_out};
 
 use crate::dest::DestHalf;
-use xv_base::{Cause, Note, Turn, UnitOp};
+use xv_base::{Cause, MOST_PATTERN, Note, Turn, UnitOp};
 use xv_device::{UnitDevice, operate};
 
 impl<T: UnitDevice> DestHalf<T> {
@@ -35,9 +35,10 @@ impl<T: UnitDevice> DestHalf<T> {
 
     /// A guest's operation, once the destination owns the guest; what it reads stands in the first bytes of `into`.
     /// It is faulted where its one call failed, and no content has changed.
+    #[tactic(auto, using(crate::proofs::GuestMoves::len_fits))]
     pub fn guest(&mut self, op: &UnitOp, into: &mut [u8]) -> Turn
         requires legal { IsLegal self.old.shape op.now }
-        requires room { 64 ≤ length into.old }
+        requires room { MOST_PATTERN ≤ length into.old }
         requires countable { HasRoomToCount self.old.told }
         ensures step { (job : Job) (v : View) (guest : GuestId) → Allows job v (Guest guest) self.old → next_operation job v guest.0 ≡ op.now → StepsDest job v (Guest guest) result self.old self.new }
         ensures bytes { (job : Job) (v : View) (c : Contents) (guest : GuestId) → Allows job v (Guest guest) self.old → next_operation job v guest.0 ≡ op.now → HasDestBytes c self.old → MovesDest job v c (Guest guest) result self.new }

@@ -1,4 +1,4 @@
-ghost use Rattle.std.specs.Prelude.{◌≡◌, ℕ, ◌+◌, ◌*◌, ◌<◌, ◌≤◌, ◌^◌, [], ◌∷◌, length, replicate, IfOk, IfSome};
+ghost use Rattle.std.specs.Prelude.{◌≡◌, ℕ, ◌+◌, ◌*◌, ◌<◌, ◌≤◌, [], ◌∷◌, length, IfOk, IfSome};
 ghost use Rattle.xv_base.specs.Units.{units, shape_of};
 ghost use Rattle.xv_device.specs.Device.{write_count};
 ghost use Rattle.xv_device.specs.Told.{HasRoomToCount};
@@ -9,7 +9,7 @@ ghost use Rattle.xv_dest.specs.Half.{fresh};
 use crate::DestHalf;
 use std::alloc::Global;
 use std::test::Fail;
-use xv_base::{Config, Layout, Note, Pattern, Turn, UnitHead, UnitId, UnitOp, Why};
+use xv_base::{Config, Layout, MOST_CREDIT, Note, Pattern, Turn, UnitHead, UnitId, UnitOp, Why};
 use xv_device::{DevicePlan, MemDevice};
 use xv_streams::{BackWire, Streams};
 use xv_wire::{MemWire, WirePlan};
@@ -107,7 +107,7 @@ fn applied(half: &mut DestHalf<MemDevice>, calls: u64) -> Option<Turn>
     ensures writes { (unit : ℕ) → write_count half.new.told.writes unit ≤ calls + 1 }
     ensures calls { IfSome half.new.told.counted (λ c. (c.calls.reads ≤ calls + 1) × (c.calls.writes ≤ calls + 1) × (c.calls.flushes ≤ calls + 1)) }
 {
-    if half.freed() < 1024 {
+    if half.freed() < MOST_CREDIT {
         Some(half.apply())
     } else {
         None

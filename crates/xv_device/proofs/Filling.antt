@@ -1,21 +1,18 @@
 -- The first contents of the units, laid over zeros from the last pattern on.
-use Rattle.std.proofs.Common.{◌≡◌, ℕ, zero, suc, ◌+◌, ◌-◌, ◌%◌, ◌<◌, List, [], ◌∷◌, length, get_or, set, take, drop, replicate, if◌then◌else◌, refl, sym, ap, ◌∙◌, arith, inl, inr, eq-eqb}
-use Rattle.std.proofs.lemmas.List.{drop_more, take-replicate, drop-replicate, length_push, length-set, get_or-set_same, get_or-set_other}
+use Rattle.std.proofs.Common.{◌≡◌, ℕ, ◌+◌, ◌-◌, ◌<◌, List, [], ◌∷◌, length, get_or, set, take, drop, replicate, if◌then◌else◌, refl, sym, ap, ◌∙◌, arith, inl, inr, eq-eqb}
+use Rattle.std.proofs.lemmas.List.{drop_more, take-replicate, drop-replicate, length-set, get_or-set_same, get_or-set_other}
 use Rattle.std.proofs.lemmas.List.FromFn.{fill_by_all, get_or-map-range_with_len, length-map-range_with_len}
 use Rattle.std.proofs.lemmas.Bool.{cases_eq, ne_eqb}
 use Rattle.xv_base.specs.declared.pattern.Init.{Init}
 use Rattle.xv_base.specs.Units.{Shape, units, all_bytes, size, place}
 use Rattle.xv_base.specs.Layout.{IsGood}
 use Rattle.xv_base.specs.Pattern.{repeated}
+use Rattle.xv_base.proofs.Patterns.{length-repeated}
 use Rattle.xv_device.specs.Device.{patched}
 use Rattle.xv_device.specs.Pieces.{piece, pieces}
 use Rattle.xv_device.specs.Memory.{no_init, first_content, first_contents}
 use Rattle.xv_device.proofs.Places.{within}
 use Rattle.xv_device.proofs.Pieces.{at-pieces, length-pieces, pieces-written}
-
-pub length-repeated : (pattern : List ℕ) (n : ℕ) → length (repeated pattern n) ≡ n
-length-repeated pattern zero = refl
-length-repeated pattern (suc n) = omega (arith, length_push (repeated pattern n) (get_or pattern (n % length pattern) 0), length-repeated pattern n)
 
 -- zeros are cut into zeros
 pub pieces-zeros : (s : Shape) → IsGood s → (b : List ℕ) → b ≡ replicate (all_bytes s) 0 → pieces s b ≡ first_contents s []

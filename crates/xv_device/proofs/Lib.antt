@@ -3,4 +3,3 @@ pub mod Pieces
 pub mod Filling
 pub mod Sized
 pub mod Made
-pub mod MayOperate

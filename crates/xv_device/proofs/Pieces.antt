@@ -17,10 +17,6 @@ part_of_part b p z o n h =
     let cut : drop o (take z (drop p b)) ≡ take (z - o) (drop o (drop p b)) = subst (λ m. drop o (take m (drop p b)) ≡ take (z - o) (drop o (drop p b))) (sym e) (drop-take o (z - o) (drop p b)) in
     ap (take n) cut ∙ take-take n (z - o) (drop o (drop p b)) (omega arith) ∙ ap (take n) (drop-drop o p b)
 
-pub length-patched : (b w : List ℕ) (at : ℕ) → at + length w ≤ length b → length (patched at w b) ≡ length b
-length-patched b w at h =
-    omega (arith, length-append (take at b ++ w) (drop (at + length w) b), length-append (take at b) w, length-take at b, length-drop (at + length w) b)
-
 -- bytes laid over a part that lies within another
 pub patched-within : (b w : List ℕ) (p z o : ℕ) → o + length w ≤ z → p + z ≤ length b
     → take z (drop p (patched (p + o) w b)) ≡ patched o w (take z (drop p b))

@@ -1,6 +1,6 @@
 -- A call of a device as data, and what it does to contents, numbers of writes and numbers of calls.
-use Rattle.std.specs.Prelude.{ℕ, ◌+◌, ◌^◌, ◌-◌, ◌==◌, min, max, Bool, false, List, [], ◌++◌, length, get_or, set, take, drop}
-use Rattle.std.specs.List.{list_any}
+use Rattle.std.specs.Prelude.{ℕ, ◌+◌, Bool, false, List, [], ◌++◌, length, get_or, set, take, drop}
+use Rattle.xv_base.specs.Calls.{is_listed}
 
 -- one call: of a range of a unit, of a whole unit, of the device, or none at all
 pub data DeviceCall : Type 0 where
@@ -62,10 +62,6 @@ calls_after FlushAll calls = record calls { flushes = calls.flushes + 1 }
 abbrev pub range_of : ℕ → ℕ → ℕ → List (List ℕ) → List ℕ
 range_of unit offset len contents = take len (drop offset (content contents unit))
 
--- whether the list has a number
-abbrev pub is_listed : List ℕ → ℕ → Bool
-is_listed fails call = list_any (λ k. k == call) fails
-
 -- whether the plan has the number that the call raises its kind's count to
 abbrev pub is_planned : DeviceCall → Counted → Bool
 is_planned NoCall c = false
@@ -73,7 +69,3 @@ is_planned (ReadRange unit offset len) c = is_listed c.plan.reads (c.calls.reads
 is_planned (PatchRange unit offset bytes) c = is_listed c.plan.writes (c.calls.writes + 1)
 is_planned (WriteUnit unit bytes) c = is_listed c.plan.writes (c.calls.writes + 1)
 is_planned FlushAll c = is_listed c.plan.flushes (c.calls.flushes + 1)
-
--- one more, in a count that stands still at the last value of 64 bits
-abbrev pub next_count : ℕ → ℕ
-next_count n = max n (min (n + 1) (2 ^ 64 - 1))

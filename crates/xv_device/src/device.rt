@@ -6,7 +6,8 @@ ghost use Rattle.xv_device.specs.Told.{Told, MayCall, CallMade, IsSized};
 
 use xv_base::{Failed, UnitId};
 
-/// A content for each unit of a layout. A call that fails changes no content and no number of writes.
+/// A content of its size for each unit of a layout, whichever call was made. A call that fails changes no content and no
+/// number of writes.
 pub trait UnitDevice {
     /// The layout, how many writes of each unit succeeded, and where it tells them the contents, and its plan with
     /// what it counts.
@@ -19,7 +20,8 @@ pub trait UnitDevice {
     fn read(&mut self, unit: UnitId, offset: u32, into: &mut [u8]) -> Result<(), Failed>
         requires { MayCall (ReadRange unit.0 offset (length into.old)) (told self.old) }
         ensures made { CallMade (ReadRange unit.0 offset (length into.old)) (is_err result) (told self.old) (told self.new) (faults self.old) (faults self.new) }
-        ensures gives { OnOk result (IfSome (told self.old).contents (λ contents. into.new ≡ range_of unit.0 offset (length into.old) contents)) };
+        ensures gives { OnOk result (IfSome (told self.old).contents (λ contents. into.new ≡ range_of unit.0 offset (length into.old) contents)) }
+        ensures sized { IsSized (told self.old) };
 
     /// Writes a whole unit.
     fn write(&mut self, unit: UnitId, bytes: &[u8]) -> Result<(), Failed>
@@ -36,5 +38,6 @@ pub trait UnitDevice {
     /// Makes sure of all that was written.
     fn flush(&mut self) -> Result<(), Failed>
         requires { MayCall FlushAll (told self.old) }
-        ensures { CallMade FlushAll (is_err result) (told self.old) (told self.new) (faults self.old) (faults self.new) };
+        ensures made { CallMade FlushAll (is_err result) (told self.old) (told self.new) (faults self.old) (faults self.new) }
+        ensures sized { IsSized (told self.old) };
 }

@@ -3,17 +3,18 @@
 ghost use Rattle.std.specs.Prelude.{◌≡◌, ℕ, false, ◌+◌, ◌<◌, ◌≤◌, ◌^◌, [], length, replicate, IfOk, OnOk, is_err, get_or};
 ghost use Rattle.xv_base.specs.Units.{units, size, all_bytes};
 ghost use Rattle.xv_base.specs.Layout.{IsGood};
-ghost use Rattle.xv_device.specs.Device.{ReadRange, PatchRange, WriteUnit, FlushAll, content, write_count, range_of, is_planned};
+ghost use Rattle.xv_base.specs.Calls.{fails_next};
+ghost use Rattle.xv_device.specs.Device.{ReadRange, PatchRange, WriteUnit, FlushAll, content, write_count, range_of};
 ghost use Rattle.xv_device.specs.Pieces.{pieces};
-ghost use Rattle.xv_device.specs.Memory.{no_init, first_contents, fresh, after, counted, told};
+ghost use Rattle.xv_device.specs.Memory.{no_init, first_contents, fresh, after, told};
 ghost use Rattle.xv_device.specs.Told.{IsSized};
 
 use crate::bytes::{copy_in, copy_out, fill_in, part, zeros};
 use crate::device::UnitDevice;
-use crate::plan::{DevicePlan, Kind, one_more};
+use crate::plan::DevicePlan;
 use std::alloc::Global;
 use std::marker::Model;
-use xv_base::{Failed, Init, Layout, NoMemory, UnitId};
+use xv_base::{Failed, Init, Layout, NoMemory, PlannedCalls, UnitId};
 
 /// A device in memory, which tells its contents, its plan and what it counts.
 #[derive(Drop)]
@@ -22,10 +23,9 @@ pub struct MemDevice {
     /// The bytes of all units, one unit after another.
     bytes: Vec<u8>,
     writes: Vec<u64>,
-    reading: Kind,
-    writing: Kind,
-    flushing: Kind,
-    faults: u64,
+    reading: PlannedCalls,
+    writing: PlannedCalls,
+    flushing: PlannedCalls,
 }
 
 impl Model for MemDevice {
@@ -38,9 +38,9 @@ impl Model for MemDevice {
       shape = d.layout;
       contents = pieces d.layout d.bytes.items;
       writes = d.writes.items;
-      plan = record { reads = d.reading.fails.items; writes = d.writing.fails.items; flushes = d.flushing.fails.items };
-      calls = record { reads = d.reading.calls; writes = d.writing.calls; flushes = d.flushing.calls };
-      faults = d.faults;
+      reading = d.reading;
+      writing = d.writing;
+      flushing = d.flushing;
     } };
 
     ghost invariant = { λ d. IsWhole d.layout d.bytes.items d.writes.items };
@@ -72,19 +72,9 @@ impl MemDevice {
             layout: *layout,
             bytes,
             writes,
-            reading: Kind {
-                fails: reads,
-                calls: 0,
-            },
-            writing: Kind {
-                fails: patches,
-                calls: 0,
-            },
-            flushing: Kind {
-                fails: flushes,
-                calls: 0,
-            },
-            faults: 0,
+            reading: PlannedCalls::of(reads),
+            writing: PlannedCalls::of(patches),
+            flushing: PlannedCalls::of(flushes),
         })
     }
 
@@ -92,16 +82,13 @@ impl MemDevice {
     pub fn read(&mut self, unit: UnitId, offset: u32, into: &mut [u8]) -> Result<(), Failed>
         requires unit_in { unit.0 < units self.old.shape }
         requires range_in { offset + length into.old ≤ size self.old.shape unit.0 }
-        requires countable { self.old.calls.reads < 2 ^ 63 }
-        ensures fails { is_err result ≡ is_planned (ReadRange unit.0 offset (length into.old)) (counted self.old) }
+        ensures fails { is_err result ≡ fails_next self.old.reading }
         ensures gives { OnOk result (into.new ≡ range_of unit.0 offset (length into.old) self.old.contents) }
         ensures after { self.new ≡ after (ReadRange unit.0 offset (length into.old)) (is_err result) self.old }
-        ensures sure { self.old.plan.reads ≡ [] → is_err result ≡ false }
+        ensures sized { IsSized (told self.old) }
+        ensures sure { self.old.reading.fails ≡ [] → is_err result ≡ false }
     {
-        if self.reading.count() {
-            self.faults = one_more(self.faults);
-            return Err(Failed);
-        }
+        self.reading.begin()?;
         let at = self.layout.place(unit) + offset;
         copy_out(&self.bytes, at as usize, into);
         Ok(())
@@ -112,11 +99,10 @@ impl MemDevice {
         requires unit_in { unit.0 < units self.old.shape }
         requires whole { length bytes.now ≡ size self.old.shape unit.0 }
         requires few { write_count self.old.writes unit.0 < 2 ^ 63 }
-        requires countable { self.old.calls.writes < 2 ^ 63 }
-        ensures fails { is_err result ≡ is_planned (WriteUnit unit.0 bytes.now) (counted self.old) }
+        ensures fails { is_err result ≡ fails_next self.old.writing }
         ensures after { self.new ≡ after (WriteUnit unit.0 bytes.now) (is_err result) self.old }
         ensures sized { IsSized (told self.old) }
-        ensures sure { self.old.plan.writes ≡ [] → is_err result ≡ false }
+        ensures sure { self.old.writing.fails ≡ [] → is_err result ≡ false }
     {
         self.patch(unit, 0, bytes)
     }
@@ -126,16 +112,12 @@ impl MemDevice {
         requires unit_in { unit.0 < units self.old.shape }
         requires range_in { offset + length bytes.now ≤ size self.old.shape unit.0 }
         requires few { write_count self.old.writes unit.0 < 2 ^ 63 }
-        requires countable { self.old.calls.writes < 2 ^ 63 }
-        ensures fails { is_err result ≡ is_planned (PatchRange unit.0 offset bytes.now) (counted self.old) }
+        ensures fails { is_err result ≡ fails_next self.old.writing }
         ensures after { self.new ≡ after (PatchRange unit.0 offset bytes.now) (is_err result) self.old }
         ensures sized { IsSized (told self.old) }
-        ensures sure { self.old.plan.writes ≡ [] → is_err result ≡ false }
+        ensures sure { self.old.writing.fails ≡ [] → is_err result ≡ false }
     {
-        if self.writing.count() {
-            self.faults = one_more(self.faults);
-            return Err(Failed);
-        }
+        self.writing.begin()?;
         let at = self.layout.place(unit) + offset;
         copy_in(&mut self.bytes, at as usize, bytes);
         self.writes[unit.0 as usize] += 1;
@@ -144,16 +126,12 @@ impl MemDevice {
 
     /// Makes sure of what was written, which in memory is nothing to do.
     pub fn flush(&mut self) -> Result<(), Failed>
-        requires countable { self.old.calls.flushes < 2 ^ 63 }
-        ensures fails { is_err result ≡ is_planned FlushAll (counted self.old) }
+        ensures fails { is_err result ≡ fails_next self.old.flushing }
         ensures after { self.new ≡ after FlushAll (is_err result) self.old }
-        ensures sure { self.old.plan.flushes ≡ [] → is_err result ≡ false }
+        ensures sized { IsSized (told self.old) }
+        ensures sure { self.old.flushing.fails ≡ [] → is_err result ≡ false }
     {
-        if self.flushing.count() {
-            self.faults = one_more(self.faults);
-            return Err(Failed);
-        }
-        Ok(())
+        self.flushing.begin()
     }
 
     /// The content of a unit; this is no call that the plan numbers.
@@ -185,11 +163,11 @@ impl MemDevice {
 }
 
 impl UnitDevice for MemDevice {
-    ghost use Rattle.xv_device.specs.Memory.{told};
+    ghost use Rattle.xv_device.specs.Memory.{told, faults};
 
     ghost told = { told };
 
-    ghost faults = { λ d. d.faults };
+    ghost faults = { faults };
 
     fn read(&mut self, unit: UnitId, offset: u32, into: &mut [u8]) -> Result<(), Failed> {
         self.read(unit, offset, into)

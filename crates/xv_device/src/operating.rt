@@ -1,17 +1,17 @@
 //! A guest's operation on a device.
 
-ghost use Rattle.std.specs.Prelude.{◌≡◌, ◌+◌, ◌<◌, ◌≤◌, true, false, Some, length, is_some, is_err, OnOk, IfSome};
+ghost use Rattle.std.specs.Prelude.{◌≡◌, ◌≤◌, false, Some, length, take, is_some, is_err, OnOk, IfSome};
+ghost use Rattle.xv_base.specs.Legal.{IsLegal};
 ghost use Rattle.xv_base.specs.Pattern.{repeated};
-ghost use Rattle.xv_base.specs.Units.{units, size, max_size, is_page};
-ghost use Rattle.xv_device.specs.Device.{ReadRange, PatchRange, WriteUnit, range_of};
-ghost use Rattle.xv_device.specs.Told.{MayCall, CallMade, HasRoomToCount, IsSized};
+ghost use Rattle.xv_device.specs.Told.{CallMade, HasRoomToCount, IsSized};
 ghost use Rattle.xv_device.specs.Operations.{operation_call, AreRead};
 
 use crate::device::UnitDevice;
-use xv_base::{Failed, Layout, Pattern, UnitId, UnitOp};
+use xv_base::{Failed, Layout, Pattern, UnitOp};
 
-/// Carries out a guest's operation by one call of the device, over a buffer for the greatest unit. What a read gives
-/// stands in the first bytes of `into`. A block is written whole.
+/// Carries out a guest's operation by one call of the device. What a read gives stands in the first bytes of `into`. What a
+/// write is to lay stands in the first bytes of `unit`, whatever the answer. Each has room for the operation's bytes. A block
+/// is written whole.
 /// Errors: the call failed.
 pub fn operate<D: UnitDevice>(
     device: &mut D,
@@ -21,15 +21,14 @@ pub fn operate<D: UnitDevice>(
     into: &mut [u8],
 ) -> Result<(), Failed>
     requires layout { (D.told device.old).shape ≡ layout.now }
-    requires unit_in { op.now.unit.0 < units layout.now }
-    requires range_in { op.now.offset + op.now.len ≤ size layout.now op.now.unit.0 }
-    requires whole_block { is_some op.now.write ≡ true → is_page layout.now op.now.unit.0 ≡ false → op.now.len ≡ size layout.now op.now.unit.0 }
+    requires legal { IsLegal layout.now op.now }
     requires countable { HasRoomToCount (D.told device.old) }
-    requires unit_room { max_size layout.now ≤ length unit.old }
-    requires into_room { is_some op.now.write ≡ false → op.now.len ≤ length into.old }
+    requires wide { op.now.len ≤ length unit.old }
+    requires room { is_some op.now.write ≡ false → op.now.len ≤ length into.old }
     ensures made { CallMade (operation_call layout.now op.now) (is_err result) (D.told device.old) (D.told device.new) (D.faults device.old) (D.faults device.new) }
     ensures reads { OnOk result (AreRead op.now into.new (D.told device.old)) }
-    ensures sized { is_some op.now.write ≡ true → IsSized (D.told device.old) }
+    ensures laid { IfSome op.now.write (λ pattern. take op.now.len unit.new ≡ repeated pattern op.now.len) }
+    ensures sized { IsSized (D.told device.old) }
 {
     match op.write {
         Some(pattern) => write_pattern(device, layout, op, &pattern, unit),
@@ -37,7 +36,8 @@ pub fn operate<D: UnitDevice>(
     }
 }
 
-/// Writes a pattern over an operation's part of a page, or over a whole block.
+/// Writes a pattern over an operation's part of a page, or over a whole block. It is laid before in the first bytes of
+/// `unit`.
 fn write_pattern<D: UnitDevice>(
     device: &mut D,
     layout: &Layout,
@@ -46,30 +46,27 @@ fn write_pattern<D: UnitDevice>(
     unit: &mut [u8],
 ) -> Result<(), Failed>
     requires layout { (D.told device.old).shape ≡ layout.now }
-    requires unit_in { op.now.unit.0 < units layout.now }
-    requires range_in { op.now.offset + op.now.len ≤ size layout.now op.now.unit.0 }
-    requires whole_block { is_page layout.now op.now.unit.0 ≡ false → op.now.len ≡ size layout.now op.now.unit.0 }
+    requires legal { IsLegal layout.now op.now }
     requires countable { HasRoomToCount (D.told device.old) }
-    requires unit_room { max_size layout.now ≤ length unit.old }
+    requires wide { op.now.len ≤ length unit.old }
     requires write { op.now.write ≡ Some pattern.now }
     ensures made { CallMade (operation_call layout.now op.now) (is_err result) (D.told device.old) (D.told device.new) (D.faults device.old) (D.faults device.new) }
+    ensures laid { take op.now.len unit.new ≡ repeated pattern.now op.now.len }
     ensures sized { IsSized (D.told device.old) }
 {
-    let is_page = layout.is_page(op.unit);
-    let bytes = filled(pattern, op.len as usize, unit);
-    if is_page {
+    fill(unit, op.len as usize, pattern);
+    let bytes = &unit[..op.len as usize];
+    if layout.is_page(op.unit) {
         device.patch(op.unit, op.offset, bytes)
     } else {
         device.write(op.unit, bytes)
     }
 }
 
-/// The first bytes of a buffer, filled by a pattern.
-fn filled<'a>(pattern: &Pattern, count: usize, buffer: &'a mut [u8]) -> &'a [u8]
+/// Lays a pattern over the first bytes of a buffer.
+fn fill(buffer: &mut [u8], count: usize, pattern: &Pattern)
     requires { count ≤ length buffer.old }
-    ensures { result.now ≡ repeated pattern.now count }
+    ensures { take count buffer.new ≡ repeated pattern.now count }
 {
-    let part = &mut buffer[..count];
-    pattern.fill(part);
-    part
+    pattern.fill(&mut buffer[..count]);
 }

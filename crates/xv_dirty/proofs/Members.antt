@@ -1,7 +1,7 @@
 -- How many members a set has, and which is the least.
 use Rattle.std.proofs.Common.{◌≡◌, ℕ, ◌+◌, ◌<◌, ◌≤◌, Bool, true, false, cond, List, length, set, replicate, Some, None, nat_lt, refl, sym, ap, ◌∙◌, arith, rules, inl, inr}
 use Rattle.std.proofs.lemmas.Bool.{false≢true, cases_lt}
-use Rattle.std.proofs.lemmas.List.{same_lists, length-replicate, get_or-replicate, get_or_past, get_or_default, set-get_or}
+use Rattle.std.proofs.lemmas.List.{same_lists, length-replicate, get_or-replicate, get_or_past, get_or_default}
 use Rattle.std.proofs.lemmas.List.Sums.{sum_by-set, count_by-le-length, position_or_len_is}
 use Rattle.std.proofs.lemmas.List.Folds.{sum_by-replicate}
 use Rattle.std.specs.List.{position_or_len}
@@ -34,10 +34,6 @@ all_members n = omega (arith, sum_by-replicate one_if n true)
 
 pub no_members : (n : ℕ) → members (replicate n false) ≡ 0
 no_members n = omega (arith, sum_by-replicate one_if n false)
-
--- to set what is set, or to clear what is not, changes nothing
-pub set_same : (s : List Bool) (i : ℕ) (b : Bool) → member s i ≡ b → set s i b ≡ s
-set_same s i b is = ap (set s i) (sym is) ∙ set-get_or s i false
 
 bool_cases : (b : Bool) → (b ≡ true → b ≡ false) → b ≡ false
 bool_cases true f = f refl

@@ -218,14 +218,6 @@ none_set k n = same_lists _ _ (length_bits (zeros k) n ∙ sym (length-replicate
     let below : i < n = omega (arith, length_bits (zeros k) n) in
     bit_below (zeros k) n i d below ∙ none_in k i ∙ sym (get_or-replicate n i false d below))
 
-pub none_kept : (n : ℕ) → n < 2 ^ 64 → HasBits (zeros (div_ceil n 64)) n
-none_kept n few = record {
-  few = few;
-  enough = length-replicate {A = ℕ} (div_ceil n 64) 0;
-  small = λ w. omega (arith, zero_in (div_ceil n 64) w);
-  none_past = λ i past. none_in (div_ceil n 64) i;
-}
-
 pub all_set : (ws : List ℕ) (n : ℕ) → ((i : ℕ) → i < n → is_set ws i ≡ true) → bits_of ws n ≡ replicate n true
 all_set ws n all = same_lists _ _ (length_bits ws n ∙ sym (length-replicate n true)) (λ i d l.
     let below : i < n = omega (arith, length_bits ws n) in

@@ -2,6 +2,7 @@
 use Rattle.std.specs.Prelude.{◌≡◌, ℕ, ◌<◌, ◌==◌, Bool, true, List, get_or, map, nat_eq}
 use Rattle.std.specs.List.{IsDistinct, list_any}
 use Rattle.xv_base.specs.declared.operation.Waiting.{Waiting}
+use Rattle.xv_base.specs.declared.limits.TheConstants.{MOST_GUESTS}
 
 -- whether a guest waits in it
 abbrev pub waits_for : List Waiting → ℕ → Bool
@@ -19,7 +20,7 @@ front queue = get_or queue 0 no_waiting
 abbrev pub guests : List Waiting → List ℕ
 guests queue = map (λ w. w.guest.0) queue
 
--- no guest waits in it twice, and each is one of sixteen
+-- no guest waits in it twice, and each is one of those that there may be
 pub record IsQueue (queue : List Waiting) : Type 0 where
   pub distinct : IsDistinct nat_eq (guests queue)
-  pub small : (guest : ℕ) → waits_for queue guest ≡ true → guest < 16
+  pub small : (guest : ℕ) → waits_for queue guest ≡ true → guest < MOST_GUESTS

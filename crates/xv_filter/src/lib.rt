@@ -2,8 +2,8 @@
 // the blocks that are being copied wait.
 //
 // Contracts see a `Queue` as the list of the writes that wait, in order of joining. The layer above may rely on
-// this: each block stands on exactly one side; and no guest waits in a queue twice, so that the places for sixteen
-// guests, which a queue has from the start, are enough.
+// this: each block stands on exactly one side; and no guest waits in a queue twice, so that one place for each
+// guest that there may be, which a queue has from the start, is enough.
 #![tactic(auto)]
 
 mod queue;
@@ -13,3 +13,4 @@ mod tests;
 
 pub use queue::Queue;
 pub use side::place;
+pub use xv_base::Waiting;

@@ -4,10 +4,10 @@ ghost use Rattle.std.specs.Prelude.{◌≡◌, ◌<◌, ◌++◌, ◌∷◌, [],
 ghost use Rattle.xv_filter.specs.Queue.{waits_for, front, IsQueue};
 
 use std::marker::Model;
-use xv_base::{GuestId, UnitId, Waiting};
+use xv_base::{GuestId, MOST_GUESTS, UnitId, Waiting};
 
-/// How many guests there are at most, and with that places in a queue.
-const PLACES: usize = 16;
+/// Places in a queue: one for each guest that there may be.
+const PLACES: usize = MOST_GUESTS as usize;
 
 /// Writes in order of joining, at most one of each guest.
 #[derive(Debug, Drop)]
@@ -18,6 +18,7 @@ pub struct Queue {
 
 impl Model for Queue {
     ghost use Rattle.std.specs.Prelude.{List, take, ◌≤◌};
+    ghost use Rattle.xv_base.specs.declared.limits.TheConstants.{MOST_GUESTS};
     ghost use Rattle.xv_base.specs.declared.operation.Waiting.{Waiting};
     ghost use Rattle.xv_filter.specs.Queue.{IsQueue};
 
@@ -25,7 +26,7 @@ impl Model for Queue {
 
     ghost view = { λ q. take q.count q.places };
 
-    ghost invariant = { λ q. (q.count ≤ 16) × IsQueue (take q.count q.places) };
+    ghost invariant = { λ q. (q.count ≤ MOST_GUESTS) × IsQueue (take q.count q.places) };
 }
 
 impl Queue {
@@ -42,9 +43,9 @@ impl Queue {
         }
     }
 
-    /// Puts a write of a guest, whose number is below 16 and who does not wait here yet, at the end.
+    /// Puts a write of a guest, whose number is below `MOST_GUESTS` and who does not wait here yet, at the end.
     pub fn join(&mut self, waiting: Waiting)
-        requires small { waiting.guest.0 < 16 }
+        requires small { waiting.guest.0 < MOST_GUESTS }
         requires absent { waits_for self.old waiting.guest.0 ≡ false }
         ensures { self.new ≡ self.old ++ waiting ∷ [] }
     {

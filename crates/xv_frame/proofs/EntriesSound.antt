@@ -22,9 +22,6 @@ pub record IsEntry (s : Shape) (b : List ℕ) : Type 0 where
   pub stands : b ≡ entry (entry_message s b) ++ drop (entry_size s b) b
   pub fits : entry_size s b ≤ length b
 
-content-of : Shape → List ℕ → Bool → List ℕ
-content-of s b t = if t then replicate (size s (word_at b 0)) 0 else take (size s (word_at b 0)) (drop 20 b)
-
 record IsEntryBy (s : Shape) (b : List ℕ) (t : Bool) : Type 0 where
   good : IsMessage s (message (entry_numbers b) (if t then replicate (size s (word_at b 0)) 0 else take (size s (word_at b 0)) (drop 20 b)))
   stands : b ≡ entry (message (entry_numbers b) (if t then replicate (size s (word_at b 0)) 0 else take (size s (word_at b 0)) (drop 20 b))) ++ drop (if t then 20 else 20 + size s (word_at b 0)) b

@@ -11,19 +11,6 @@ use Rattle.xv_frame.specs.Faults.{content_fault, entry_fault, entries_fault, fir
 use Rattle.xv_frame.specs.Reading.{entry_size, is_marked}
 use Rattle.xv_frame.proofs.WhatTestsSay.{no-fault, not-false}
 
-fits-by : (s : Shape) (b : List ℕ) (t : Bool) → 20 ≤ length b → (if t then None else content_fault (size s (word_at b 0)) b) ≡ None → (if t then 20 else 20 + size s (word_at b 0)) ≤ length b
-fits-by s b true l none = l
-fits-by s b false l none = ltb-false (length b) (20 + size s (word_at b 0)) (no-fault (ltb (length b) (20 + size s (word_at b 0))) group.Short _ none).0
-
-pub entry-fits : (s : Shape) (b : List ℕ) → entry_fault s b ≡ None → (word_at b 0 < units s) × (entry_size s b ≤ length b)
-entry-fits s b none =
-    let long = no-fault (ltb (length b) 20) group.Short _ none in
-    let unit = no-fault (not (ltb (word_at b 0) (units s))) group.BadUnit _ long.1 in
-    let version = no-fault (eqb (word_at b 4) 0) group.BadVersion _ unit.1 in
-    let mark = no-fault (ltb 1 (get_or b 16 0)) group.BadMark _ version.1 in
-    let zeros = no-fault (not (zero_at b 17 3)) group.NotZero _ mark.1 in
-    (ltb-true (word_at b 0) (units s) (not-false _ unit.0), fits-by s b (is_marked b) (ltb-false (length b) 20 long.0) zeros.1)
-
 more : (s : Shape) (n : ℕ) (b : List ℕ) → 0 < n → entries_fault s n b ≡ first_of (entry_fault s b) (entries_fault s (n - 1) (drop (entry_size s b) b))
 more s zero b h = absurd (omega arith)
 more s (suc n) b h = let e : suc n - 1 ≡ n = omega arith in ap (λ k. first_of (entry_fault s b) (entries_fault s k (drop (entry_size s b) b))) (sym e)

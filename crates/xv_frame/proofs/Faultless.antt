@@ -162,11 +162,5 @@ head-first (UnitFrame m) rest = ap (take 24) (append_assoc (unit_head m.head (le
 head-first (AckFrame count) rest = take_at (ack count) rest 24 (length-ack count)
 head-first (GroupFrame ms) rest = ap (take 24) (append_assoc (group_head (length ms) (length (entries ms))) (entries ms) rest) ∙ take_at (group_head (length ms) (length (entries ms))) (entries ms ++ rest) 24 (length-group-head (length ms) (length (entries ms)))
 
-pub length-head : (f : Frame) → length (head_of f) ≡ 24
-unfolding head_of
-length-head (UnitFrame m) = length-unit-head m.head (length m.content)
-length-head (AckFrame count) = length-ack count
-length-head (GroupFrame ms) = length-group-head (length ms) (length (entries ms))
-
 pub size-at-front : (s : Shape) (f : Frame) (rest : List ℕ) → IsGood s → IsFrame s f → frame_size s (take 24 (spelled f ++ rest)) ≡ Some (length (spelled f))
 size-at-front s f rest g h = ap (frame_size s) (head-first f rest) ∙ size-told s f g h

@@ -20,19 +20,7 @@ pub long-at-eight : (b : List ℕ) (at : ℕ)
 unfolding long_at
 long-at-eight b at = simp (get_or-drop, add-zero) refl
 
--- a number that was written is read
-pub short-read : (n : ℕ) (rest : List ℕ) → n < 2 ^ 16 → short_at (short_bytes n ++ rest) 0 ≡ n
-unfolding short_at short_bytes
-short-read n rest fits = from_be_bytes-to_be_bytes_2 n fits
-
-pub word-read : (n : ℕ) (rest : List ℕ) → n < 2 ^ 32 → word_at (word_bytes n ++ rest) 0 ≡ n
-unfolding word_at word_bytes
-word-read n rest fits = from_be_bytes-to_be_bytes_4 n fits
-
-pub long-read : (n : ℕ) (rest : List ℕ) → n < 2 ^ 64 → long_at (long_bytes n ++ rest) 0 ≡ n
-unfolding long_at long_bytes
-long-read n rest fits = from_be_bytes-to_be_bytes_8 n fits
-
+-- how many bytes each has
 pub length-short : (n : ℕ) → length (short_bytes n) ≡ 2
 unfolding short_bytes
 length-short n = refl

@@ -1,6 +1,8 @@
 -- What is wrong with bytes that are to be a frame: the first fault in the order of their fields.
 use Rattle.std.specs.Prelude.{ℕ, zero, suc, ◌+◌, ◌-◌, ◌==◌, nat_lt, ◌&&◌, ◌||◌, not, List, length, drop, Option, Some, None, Result, Ok, Err, if◌then◌else◌}
+use Rattle.xv_base.specs.declared.limits.TheConstants.{MOST_CREDIT, MOST_GROUP, SINGLE_FORMAT, GROUP_FORMAT}
 use Rattle.xv_base.specs.Units.{Shape, units, size}
+use Rattle.xv_frame.specs.declared.codes.TheConstants.{HEAD_SIZE, ENTRY_HEAD_SIZE, MESSAGE_KIND, ACK_KIND, ZERO_MARK}
 use Rattle.xv_frame.specs.declared.heads.Head.{Head}
 use Rattle.xv_frame.specs.declared.heads.Head.TheVariants.{Unit as UnitHeadOf, Ack}
 use Rattle.xv_frame.specs.declared.heads.FrameFault.{FrameFault}
@@ -21,43 +23,43 @@ unit_fault s head =
 abbrev pub ack_fault : List ℕ → Option FrameFault
 ack_fault head =
     if not (zero_at head 2 6 && zero_at head 12 12) then Some fault.NotZero
-    else (if (word_at head 8 == 0) || nat_lt 1024 (word_at head 8) then Some fault.BadCount else None)
+    else (if (word_at head 8 == 0) || nat_lt MOST_CREDIT (word_at head 8) then Some fault.BadCount else None)
 
 abbrev pub head_fault : Shape → List ℕ → Option FrameFault
 head_fault s head =
-    if not (byte_at head 0 == 1) then Some fault.BadFormat
-    else (if byte_at head 1 == 1 then unit_fault s head
-    else (if byte_at head 1 == 2 then ack_fault head else Some fault.BadKind))
+    if not (byte_at head 0 == SINGLE_FORMAT) then Some fault.BadFormat
+    else (if byte_at head 1 == MESSAGE_KIND then unit_fault s head
+    else (if byte_at head 1 == ACK_KIND then ack_fault head else Some fault.BadKind))
 
--- what these 24 bytes are read as
+-- what these bytes of a head are read as
 abbrev pub head_or : Option FrameFault → Head → Result Head FrameFault
 head_or (Some f) head = Err f
 head_or None head = Ok head
 
 abbrev pub read_head : Shape → List ℕ → Result Head FrameFault
-read_head s head = head_or (head_fault s head) (if byte_at head 1 == 2 then Ack (word_at head 8) else UnitHeadOf (front_head head))
+read_head s head = head_or (head_fault s head) (if byte_at head 1 == ACK_KIND then Ack (word_at head 8) else UnitHeadOf (front_head head))
 
 -- of the head that the bytes of a group begin with
 abbrev pub group_head_fault : List ℕ → Option GroupFault
 group_head_fault bytes =
-    if nat_lt (length bytes) 24 then Some group.Short
-    else (if not (byte_at bytes 0 == 2) then Some group.BadFormat
-    else (if not (byte_at bytes 1 == 1) then Some group.BadKind
-    else (if (short_at bytes 2 == 0) || nat_lt 16 (short_at bytes 2) then Some group.BadCount
+    if nat_lt (length bytes) HEAD_SIZE then Some group.Short
+    else (if not (byte_at bytes 0 == GROUP_FORMAT) then Some group.BadFormat
+    else (if not (byte_at bytes 1 == MESSAGE_KIND) then Some group.BadKind
+    else (if (short_at bytes 2 == 0) || nat_lt MOST_GROUP (short_at bytes 2) then Some group.BadCount
     else (if not (zero_at bytes 8 16) then Some group.NotZero else None))))
 
 -- of the entry that bytes begin with, and of its content of that size
 abbrev pub content_fault : ℕ → List ℕ → Option GroupFault
 content_fault count bytes =
-    if nat_lt (length bytes) (20 + count) then Some group.Short
-    else (if zero_at bytes 20 count then Some group.BadMark else None)
+    if nat_lt (length bytes) (ENTRY_HEAD_SIZE + count) then Some group.Short
+    else (if zero_at bytes ENTRY_HEAD_SIZE count then Some group.BadMark else None)
 
 abbrev pub entry_fault : Shape → List ℕ → Option GroupFault
 entry_fault s bytes =
-    if nat_lt (length bytes) 20 then Some group.Short
+    if nat_lt (length bytes) ENTRY_HEAD_SIZE then Some group.Short
     else (if not (nat_lt (word_at bytes 0) (units s)) then Some group.BadUnit
     else (if word_at bytes 4 == 0 then Some group.BadVersion
-    else (if nat_lt 1 (byte_at bytes 16) then Some group.BadMark
+    else (if nat_lt ZERO_MARK (byte_at bytes 16) then Some group.BadMark
     else (if not (zero_at bytes 17 3) then Some group.NotZero
     else (if is_marked bytes then None else content_fault (size s (word_at bytes 0)) bytes)))))
 
@@ -74,8 +76,8 @@ entries_fault s (suc n) bytes = first_of (entry_fault s bytes) (entries_fault s 
 abbrev pub group_fault : Shape → List ℕ → Option GroupFault
 group_fault s bytes =
     first_of (group_head_fault bytes)
-    (if not (word_at bytes 4 == length bytes - 24) then Some group.BadLength
-    else entries_fault s (short_at bytes 2) (drop 24 bytes))
+    (if not (word_at bytes 4 == length bytes - HEAD_SIZE) then Some group.BadLength
+    else entries_fault s (short_at bytes 2) (drop HEAD_SIZE bytes))
 
 -- what the bytes are read as: how many entries there are
 abbrev pub count_or : Option GroupFault → ℕ → Result ℕ GroupFault

@@ -1,6 +1,7 @@
 -- What the spellings of frames are to one another, and to what is read of them.
 use Rattle.std.specs.Prelude.{◌≡◌, ℕ, List, ◌++◌, length, take, Some, Ok}
 use Rattle.xv_base.specs.Units.{Shape}
+use Rattle.xv_frame.specs.declared.codes.TheConstants.{HEAD_SIZE}
 use Rattle.xv_frame.specs.declared.heads.Head.{Head}
 use Rattle.xv_frame.specs.Frame.{Each, Message, Frame, GroupFrame, IsFrame, IsGroup, spelled, all_spelled}
 use Rattle.xv_frame.specs.Heads.{IsHead, head_spelled}
@@ -32,4 +33,4 @@ AcceptGroups s = (ms : List Message) → IsGroup s ms → read_group s (spelled 
 
 -- the head of a frame tells how long the frame is
 abbrev pub TellSize : Shape → Type 0
-TellSize s = (f : Frame) → IsFrame s f → (rest : List ℕ) → frame_size s (take 24 (spelled f ++ rest)) ≡ Some (length (spelled f))
+TellSize s = (f : Frame) → IsFrame s f → (rest : List ℕ) → frame_size s (take HEAD_SIZE (spelled f ++ rest)) ≡ Some (length (spelled f))

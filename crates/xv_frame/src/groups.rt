@@ -7,19 +7,20 @@ ghost use Rattle.xv_frame.specs.Reading.{front_group, entry_numbers, entry_size,
 ghost use Rattle.xv_frame.specs.Fields.{short_at, word_at};
 ghost use Rattle.xv_frame.specs.Frame.{IsGroup, GroupFrame, spelled};
 
+use crate::codes::{ENTRY_HEAD_SIZE, HEAD_SIZE, MESSAGE_KIND, ZERO_MARK};
 use crate::fields::{is_zero, long_at, short_at, word_at};
-use xv_base::{Layout, UnitHead, UnitId};
+use xv_base::{GROUP_FORMAT, Layout, MOST_GROUP, UnitHead, UnitId};
 
 /// Why bytes are no group, the first of these as one reads on.
 #[derive(Clone, Copy, Debug, PartialEq, Eq)]
 pub enum GroupFault {
     /// The head, an entry or its content is not whole.
     Short,
-    /// The format is not 2.
+    /// The format is not that of groups.
     BadFormat,
     /// The kind is not that of messages.
     BadKind,
-    /// The number of entries is not from 1 to 16.
+    /// The number of entries is 0, or above `MOST_GROUP`.
     BadCount,
     /// A byte that is kept for later is not zero.
     NotZero,
@@ -63,10 +64,10 @@ fn read_group(bytes: &[u8], layout: &Layout) -> Result<u32, GroupFault>
     ensures { result ≡ read_group layout.now bytes.now }
 {
     let head = decode_group_head(bytes)?;
-    if head.bytes as usize != bytes.len() - 24 {
+    if head.bytes as usize != bytes.len() - HEAD_SIZE {
         return Err(GroupFault::BadLength);
     }
-    match entries_fault(layout, head.count, &bytes[24..]) {
+    match entries_fault(layout, head.count, &bytes[HEAD_SIZE..]) {
         Some(fault) => Err(fault),
         None => Ok(u32::from(head.count)),
     }
@@ -80,17 +81,17 @@ pub fn decode_group_head(bytes: &[u8]) -> Result<GroupHead, GroupFault>
     ensures count { IfOk result (λ head. head.count ≡ short_at bytes.now 2) }
     ensures follow { IfOk result (λ head. head.bytes ≡ word_at bytes.now 4) }
 {
-    if bytes.len() < 24 {
+    if bytes.len() < HEAD_SIZE {
         return Err(GroupFault::Short);
     }
-    if bytes[0] != 2 {
+    if bytes[0] != GROUP_FORMAT {
         return Err(GroupFault::BadFormat);
     }
-    if bytes[1] != 1 {
+    if bytes[1] != MESSAGE_KIND {
         return Err(GroupFault::BadKind);
     }
     let count = short_at(bytes, 2);
-    if count == 0 || count > 16 {
+    if count == 0 || count > u16::from(MOST_GROUP) {
         return Err(GroupFault::BadCount);
     }
     if !is_zero(bytes, 8, 16) {
@@ -112,7 +113,7 @@ pub fn decode_entry(layout: &Layout, bytes: &[u8]) -> Result<Entry, GroupFault>
     ensures unit_in { IfOk result (λ it. it.head.unit.0 < units layout.now) }
     ensures fits { IfOk result (λ _. entry_size layout.now bytes.now ≤ length bytes.now) }
 {
-    if bytes.len() < 20 {
+    if bytes.len() < ENTRY_HEAD_SIZE {
         return Err(GroupFault::Short);
     }
     let head = entry_numbers(bytes);
@@ -122,13 +123,13 @@ pub fn decode_entry(layout: &Layout, bytes: &[u8]) -> Result<Entry, GroupFault>
     if head.version == 0 {
         return Err(GroupFault::BadVersion);
     }
-    if bytes[16] > 1 {
+    if bytes[16] > ZERO_MARK {
         return Err(GroupFault::BadMark);
     }
     if !is_zero(bytes, 17, 3) {
         return Err(GroupFault::NotZero);
     }
-    if bytes[16] == 1 {
+    if bytes[16] == ZERO_MARK {
         return Ok(Entry { head, zero: true });
     }
     match content_fault(bytes, layout.size(head.unit)) {
@@ -139,7 +140,7 @@ pub fn decode_entry(layout: &Layout, bytes: &[u8]) -> Result<Entry, GroupFault>
 
 /// The numbers of the entry that the bytes begin with.
 fn entry_numbers(bytes: &[u8]) -> UnitHead
-    requires { 20 ≤ length bytes.now }
+    requires { ENTRY_HEAD_SIZE ≤ length bytes.now }
     ensures { result ≡ entry_numbers bytes.now }
 {
     UnitHead {
@@ -151,14 +152,14 @@ fn entry_numbers(bytes: &[u8]) -> UnitHead
 
 /// What is wrong with the content of an entry that has one.
 fn content_fault(bytes: &[u8], size: u32) -> Option<GroupFault>
-    requires { 20 ≤ length bytes.now }
+    requires { ENTRY_HEAD_SIZE ≤ length bytes.now }
     ensures { result ≡ content_fault size bytes.now }
 {
-    let end = 20 + size as usize;
+    let end = ENTRY_HEAD_SIZE + size as usize;
     if bytes.len() < end {
         return Some(GroupFault::Short);
     }
-    if is_zero(bytes, 20, size as usize) {
+    if is_zero(bytes, ENTRY_HEAD_SIZE, size as usize) {
         return Some(GroupFault::BadMark);
     }
     None
@@ -186,11 +187,11 @@ fn entries_fault(layout: &Layout, count: u16, bytes: &[u8]) -> Option<GroupFault
 /// How many bytes an entry has.
 fn entry_size(layout: &Layout, entry: Entry) -> usize
     requires { entry.head.unit.0 < units layout.now }
-    ensures { result ≡ (if entry.zero then 20 else 20 + size layout.now entry.head.unit.0) }
+    ensures { result ≡ (if entry.zero then ENTRY_HEAD_SIZE else ENTRY_HEAD_SIZE + size layout.now entry.head.unit.0) }
 {
     if entry.zero {
-        20
+        ENTRY_HEAD_SIZE
     } else {
-        20 + layout.size(entry.head.unit) as usize
+        ENTRY_HEAD_SIZE + layout.size(entry.head.unit) as usize
     }
 }

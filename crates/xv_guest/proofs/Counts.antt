@@ -31,13 +31,13 @@ faulted-push : (entries : List Ended) (e : Ended) → faulted (entries ++ e ∷ 
 faulted-push entries e = count_by-push (λ x. is_faulted x.outcome) entries e
 
 pub counted-push : (entries : List Ended) (room capacity more : ℕ) (counts : List ℕ) (faults : ℕ) (e : Ended) (count one : ℕ)
-    → IsCounted entries room capacity counts faults → length entries < room → capacity ≤ more → e.guest.0 < 2 ^ 8
+    → IsCounted entries room capacity counts faults → length entries < room → more ≡ capacity → e.guest.0 < 2 ^ 8
     → count ≡ get_or counts e.guest.0 count → one ≡ fault_count e.outcome
     → IsCounted (entries ++ e ∷ []) room more (slice_set counts e.guest.0 (count + 1)) (faults + one)
-counted-push entries room capacity more counts faults e count one h below grows small is one_is = record {
+counted-push entries room capacity more counts faults e count one h below stays small is one_is = record {
   small = h.small;
   fits = omega (arith, length_push entries e);
-  reserved = omega (arith, h.reserved);
+  reserved = stays ∙ h.reserved;
   guests = length-set counts e.guest.0 (count + 1) ∙ h.guests;
   per_guest = λ guest l. elim (cases_eq e.guest.0 guest) [
     | inl own ↦

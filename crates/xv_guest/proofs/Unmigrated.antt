@@ -1,7 +1,6 @@
 -- The unmigrated guest, run entry by entry over a device in memory.
 use Rattle.std.proofs.Common.{◌≡◌, ℕ, zero, suc, ◌+◌, ◌^◌, ◌<◌, ◌≤◌, ◌==◌, ◌&&◌, true, false, List, [], ◌∷◌, ◌++◌, length, take, drop, set, get_or, replicate, slice_index, slice_set, Option, Some, None, if◌then◌else◌, refl, sym, ap, subst, ◌∙◌, arith, inl, inr}
-use Rattle.std.proofs.lemmas.List.{take_more, take_all, take_at, length-take-le, length-set, get_or-set_same, get_or-set_other, set-get_or, append-nil}
-use Rattle.std.proofs.lemmas.List.Sums.{count_by-le-length}
+use Rattle.std.proofs.lemmas.List.{take_more, take_all, take_at, length-set, get_or-set_same, get_or-set_other, set-get_or, append-nil}
 use Rattle.std.proofs.lemmas.List.FromFn.{length-map-range_with_len, get_or-map-range_with_len}
 use Rattle.std.proofs.lemmas.Bool.{cases_eq}
 use Rattle.xv_base.specs.Units.{Shape, units, size, max_size}
@@ -16,7 +15,7 @@ use Rattle.xv_trace.specs.Operations.{count_all, no_unit_op}
 use Rattle.xv_trace.specs.OpText.{Program}
 use Rattle.xv_trace.proofs.Counts.{length-all_unit_operations}
 use Rattle.xv_model.specs.Job.{Job}
-use Rattle.xv_model.specs.Guest.{is_done, writes_to, initial_by, overlaid}
+use Rattle.xv_model.specs.Guest.{is_done, writes_to, overlaid}
 use Rattle.xv_model.specs.Contents.{unit_content, after_operation, read_of}
 use Rattle.xv_model.proofs.Contents.Histories.{operation_of}
 use Rattle.xv_model.proofs.Histories.{ended-push_same, ended-push_other, ended-take-le}
@@ -25,7 +24,7 @@ use Rattle.xv_model.proofs.Contents.Sizes.{length-repeated}
 use Rattle.xv_device.specs.Device.{write_count, contents_after}
 use Rattle.xv_device.specs.Memory.{Device, first_content, first_contents, fresh, after}
 use Rattle.xv_guest.specs.Log.{ended, entry, no_entry}
-use Rattle.xv_guest.specs.Plain.{Plain, guest_ops, LiesIn, IsSure, IsJobOf, IsUnmigrated, call_by, call_of, bytes_of}
+use Rattle.xv_guest.specs.Plain.{Plain, guest_ops, LiesIn, IsJobOf, IsUnmigrated, call_by, call_of, bytes_of}
 
 -- a guest that has a unit operation of this number has a trace, with more than so many
 pub next_there : (programs : List Program) (guest k : ℕ) (p : Program) → k < length (guest_ops programs guest) → p ≡ get_or programs guest p → k < count_all p.ops
@@ -48,10 +47,8 @@ call_contents (Some pattern) op contents e =
 -- a device of this machine whose calls do not fail, after at most so many of them
 pub record IsAt (shape : Shape) (most : ℕ) (device : Device) : Type 0 where
   pub shape_is : device.shape ≡ shape
-  pub no_failing_read : device.plan.reads ≡ []
-  pub no_failing_write : device.plan.writes ≡ []
-  pub few_reads : device.calls.reads ≤ most
-  pub few_writes : device.calls.writes ≤ most
+  pub no_failing_read : device.reading.fails ≡ []
+  pub no_failing_write : device.writing.fails ≡ []
   pub few_each : (unit : ℕ) → write_count device.writes unit ≤ most
   pub contents_each : length device.contents ≡ units shape
 
@@ -67,8 +64,6 @@ at_call shape most d None op a = record {
   shape_is = a.shape_is;
   no_failing_read = a.no_failing_read;
   no_failing_write = a.no_failing_write;
-  few_reads = omega (arith, a.few_reads);
-  few_writes = omega (arith, a.few_writes);
   few_each = λ unit. omega (arith, a.few_each unit);
   contents_each = a.contents_each;
 }
@@ -76,8 +71,6 @@ at_call shape most d (Some pattern) op a = record {
   shape_is = a.shape_is;
   no_failing_read = a.no_failing_read;
   no_failing_write = a.no_failing_write;
-  few_reads = omega (arith, a.few_reads);
-  few_writes = omega (arith, a.few_writes);
   few_each = λ unit. omega (arith, one_write_more d.writes op.unit.0 unit, a.few_each unit);
   contents_each = length-set d.contents op.unit.0 _ ∙ a.contents_each;
 }
@@ -88,19 +81,8 @@ at_next shape most d Faulted op a = record {
   shape_is = a.shape_is;
   no_failing_read = a.no_failing_read;
   no_failing_write = a.no_failing_write;
-  few_reads = omega (arith, a.few_reads);
-  few_writes = omega (arith, a.few_writes);
   few_each = λ unit. omega (arith, a.few_each unit);
   contents_each = a.contents_each;
-}
-
-pub is_sure : (shape : Shape) (most : ℕ) (d : Device) (unit : ℕ) → IsAt shape most d → most < 2 ^ 32 → IsSure d unit
-is_sure shape most d unit a h = record {
-  no_failing_read = a.no_failing_read;
-  no_failing_write = a.no_failing_write;
-  reads_countable = omega (arith, a.few_reads);
-  writes_countable = omega (arith, a.few_writes);
-  unit_countable = omega (arith, a.few_each unit);
 }
 
 -- one entry more, on the device and the bytes read
@@ -132,18 +114,13 @@ pub record IsRunTo (shape : Shape) (init : List Init) (programs : List Program) 
   pub next_are : (guest : ℕ) → guest < 2 ^ 8 → slice_index next guest ≡ ended (take i history) guest
   pub follows : (job : Job) → IsJobOf job shape init programs → IsUnmigrated job (take i history) (plain_of device read)
 
-first_is_initial : (init : List Init) (bytes unit : ℕ) → first_content init bytes unit ≡ initial_by init bytes unit
-first_is_initial [] bytes unit = refl
-first_is_initial (i ∷ is) bytes unit = ap (λ (c : List ℕ). if i.unit.0 == unit then repeated i.pattern bytes else c) (first_is_initial is bytes unit)
-
 first_follows : (shape : Shape) (init : List Init) (programs : List Program) (job : Job) → IsJobOf job shape init programs → (unit : ℕ) → unit < units job.shape
-    → unit_content (first_contents shape init) unit ≡ initial_by job.init (size job.shape unit) unit
+    → unit_content (first_contents shape init) unit ≡ first_content job.init (size job.shape unit) unit
 first_follows shape init programs job j unit lt =
     let P : Shape → Type 0 = λ s. unit < units s in
     get_or-map-range_with_len (λ (u : ℕ). first_content init (size shape u) u) 0 (units shape) unit unit [] (subst P j.shape_is lt) (omega arith)
-    ∙ first_is_initial init (size shape unit) unit
-    ∙ ap (λ (is : List Init). initial_by is (size shape unit) unit) (sym j.init_is)
-    ∙ ap (λ (s : Shape). initial_by job.init (size s unit) unit) (sym j.shape_is)
+    ∙ ap (λ (is : List Init). first_content is (size shape unit) unit) (sym j.init_is)
+    ∙ ap (λ (s : Shape). first_content job.init (size s unit) unit) (sym j.shape_is)
 
 abbrev pub sure_device : Shape → List Init → Device
 sure_device shape init = fresh shape init (record { reads = []; writes = []; flushes = [] })
@@ -163,8 +140,6 @@ begun shape init programs history device read next e r long zeros =
         shape_is = refl;
         no_failing_read = refl;
         no_failing_write = refl;
-        few_reads = omega arith;
-        few_writes = omega arith;
         few_each = λ unit. first_each (units shape) unit;
         contents_each = length-map-range_with_len (λ (u : ℕ). first_content init (size shape u) u) 0 (units shape);
       };
@@ -185,14 +160,6 @@ pub is_next : (shape : Shape) (init : List Init) (programs : List Program) (hist
 is_next shape init programs history i device read next e r lt is small legal =
     let P : Ended → Type 0 = λ x. ended (take i history) x.guest.0 + 1 ≤ ended history x.guest.0 in
     omega (arith, subst P (sym is) (next_of history i lt), legal e.guest.0, r.next_are e.guest.0 small)
-
-ended_below : (history : List Ended) (guest : ℕ) → ended history guest ≤ length history
-ended_below history guest = count_by-le-length (λ x. x.guest.0 == guest) history
-
-pub next_small : (shape : Shape) (init : List Init) (programs : List Program) (history : List Ended) (i : ℕ) (device : Device) (read next : List ℕ) (guest : ℕ)
-    → IsRunTo shape init programs history i device read next → i < length history → guest < 2 ^ 8 → slice_index next guest ≤ i
-next_small shape init programs history i device read next guest r lt small =
-    omega (arith, r.next_are guest small, ended_below (take i history) guest, length-take-le i history (omega arith))
 
 -- what it does lies in its unit, and its bytes fit those of the greatest unit
 pub op_lies : (shape of_device : Shape) (programs : List Program) (guest k : ℕ) (op : UnitOp) → ((guest k : ℕ) → k < length (guest_ops programs guest) → LiesIn shape (get_or (guest_ops programs guest) k no_unit_op))

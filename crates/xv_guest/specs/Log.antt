@@ -1,6 +1,7 @@
 -- What is seen of a history.
-use Rattle.std.specs.Prelude.{◌≡◌, ◌<◌, ◌≤◌, ◌==◌, ◌^◌, ℕ, Bool, true, false, List, length, get_or, count_by, slice_index, if◌then◌else◌}
+use Rattle.std.specs.Prelude.{◌≡◌, ◌<◌, ◌≤◌, ◌^◌, ℕ, Bool, true, false, List, length, count_by, slice_index, if◌then◌else◌}
 use Rattle.xv_base.specs.declared.operation.Ended.{Ended}
+pub use Rattle.xv_model.specs.Guest.{ended, no_entry, entry}
 use Rattle.xv_base.specs.declared.operation.Outcome.{Outcome}
 use Rattle.xv_base.specs.declared.operation.Outcome.TheVariants.{Done, Faulted}
 
@@ -13,28 +14,18 @@ abbrev pub is_faulted : Outcome → Bool
 is_faulted Done = false
 is_faulted Faulted = true
 
--- how many unit operations of a guest have ended, and how many of all have faulted
-abbrev pub ended : List Ended → ℕ → ℕ
-ended entries guest = count_by (λ e. e.guest.0 == guest) entries
-
+-- how many unit operations have faulted
 abbrev pub fault_count : Outcome → ℕ
 fault_count outcome = if is_faulted outcome then 1 else 0
 
 abbrev pub faulted : List Ended → ℕ
 faulted entries = count_by (λ e. is_faulted e.outcome) entries
 
--- what stands for an entry that is not there
-abbrev pub no_entry : Ended
-no_entry = record { guest = record { 0 = 0 }; outcome = Faulted }
-
-abbrev pub entry : List Ended → ℕ → Ended
-entry entries i = get_or entries i no_entry
-
--- the counts kept beside the entries are theirs, and there is memory for as many as there is room for
+-- the counts kept beside the entries are theirs, and there is memory for exactly as many as there is room for
 pub record IsCounted (entries : List Ended) (room capacity : ℕ) (counts : List ℕ) (faults : ℕ) : Type 0 where
   pub small : room < 2 ^ 32
   pub fits : length entries ≤ room
-  pub reserved : room ≤ capacity
+  pub reserved : capacity ≡ room
   pub guests : length counts ≡ 2 ^ 8
   pub per_guest : (guest : ℕ) → guest < 2 ^ 8 → slice_index counts guest ≡ ended entries guest
   pub faults_are : faults ≡ faulted entries

@@ -59,8 +59,6 @@ bytes_of Faulted op contents = []
 
 -- a device in memory whose next call, be it of this unit, does not fail and is counted
 pub record IsSure (device : Device) (unit : ℕ) : Type 0 where
-  pub no_failing_read : device.plan.reads ≡ []
-  pub no_failing_write : device.plan.writes ≡ []
-  pub reads_countable : device.calls.reads < 2 ^ 63
-  pub writes_countable : device.calls.writes < 2 ^ 63
+  pub no_failing_read : device.reading.fails ≡ []
+  pub no_failing_write : device.writing.fails ≡ []
   pub unit_countable : write_count device.writes unit < 2 ^ 63

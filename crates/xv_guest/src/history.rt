@@ -57,10 +57,7 @@ impl History {
     {
         self.counts[ended.guest.0 as usize] += 1;
         self.faulted += fault_count(ended.outcome);
-        match self.entries.push(ended) {
-            Ok(()) => {}
-            Err(_) => unreachable!(),
-        }
+        self.entries.push_reserved(ended);
     }
 
     /// How many entries there is room for.

@@ -13,3 +13,4 @@ mod tests;
 
 pub use history::History;
 pub use plain::PlainGuest;
+pub use xv_base::{Ended, Outcome};

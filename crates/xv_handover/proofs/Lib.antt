@@ -3,3 +3,4 @@ pub mod Sayings
 pub mod Scripts
 pub mod Sound
 pub mod Told
+pub mod Programs

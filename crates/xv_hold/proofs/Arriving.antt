@@ -1,9 +1,10 @@
 -- A message arrives: the list has it at its end, and the hold keeps what each hold keeps.
-use Rattle.std.proofs.Common.{◌≡◌, ◌≢◌, ℕ, ◌+◌, ◌-◌, ◌*◌, ◌^◌, ◌<◌, ◌≤◌, ◌⊎◌, true, cond, List, [], ◌∷◌, ◌++◌, length, map, get_or, set, take, drop, sum, count_by, Option, Some, None, sym, refl, ap, ◌∙◌, arith, ⊎_elim, subst, eq-eqb}
+use Rattle.std.proofs.Common.{◌≡◌, ◌≢◌, ℕ, ◌+◌, ◌-◌, ◌*◌, ◌^◌, ◌<◌, ◌≤◌, ◌⊎◌, true, cond, List, [], ◌∷◌, ◌++◌, length, map, get_or, set, take, drop, sum, count_by, Some, None, sym, refl, ap, ◌∙◌, arith, ⊎_elim, inl, inr, subst, eq-eqb, ne_eqb}
 use Rattle.std.specs.List.{sum_by}
 use Rattle.std.proofs.lemmas.List.{same_lists, map-append, map-set, get_or-map, length-map, length_push, take_at, get_or_push, get_or_append_left, get_or-set_same, get_or-set_other, length-set}
-use Rattle.std.proofs.lemmas.List.Sums.{sum_by-set, sum_by_push, get_or-le-sum_by, sum_by-le}
+use Rattle.std.proofs.lemmas.List.Sums.{sum_by_push, get_or-le-sum_by, sum_by-le, count_by-le-length}
 use Rattle.std.proofs.lemmas.List.Elements.{All-from_get_or}
+use Rattle.std.proofs.lemmas.Bool.{cases_eq}
 use Rattle.std.proofs.Math.Nat.{mul-le-mul_right}
 use Rattle.xv_base.specs.Units.{units, size}
 use Rattle.xv_base.proofs.Within.{good_within}
@@ -11,12 +12,13 @@ use Rattle.xv_slots.specs.Row.{content, put}
 use Rattle.xv_hold.specs.declared.hold.Held.{Held}
 use Rattle.xv_hold.specs.Messages.{Message, UnitHead, no_message, is_of, is_version, copies, arrived, last_slot}
 use Rattle.xv_hold.specs.Arrival.{in_slot, head_of, slot_of, in_order, message_in}
-use Rattle.xv_hold.specs.Chains.{link, IsLastBelow}
-use Rattle.xv_hold.specs.Kept.{State, IsKept, IsHeldIn, messages, seen_of, ready_by, ready_after, has_unit}
+use Rattle.xv_hold.specs.Chains.{link, IsLastBelow, end_with}
+use Rattle.xv_hold.specs.Kept.{State, IsKept, IsHeldIn, messages, seen_of, ready_by, ready_after}
 use Rattle.xv_hold.proofs.Places.{ArrivedOnce, slot-found, slot-same, order-at, order-place, order-more}
 use Rattle.xv_hold.proofs.FirstReady.{message-at, messages-length}
 use Rattle.xv_hold.proofs.Linking.{IsPut, put-cases, put-apart, put-keeps}
 use Rattle.xv_hold.proofs.Chained.{IsUnwritten, chained-more}
+use Rattle.xv_hold.proofs.Ends.{ended-more}
 
 -- two functions that agree on the items of a list
 pub map-same : {X : Type 0} (f g : ℕ → X) (xs : List ℕ) → ((j : ℕ) → j < length xs → f (get_or xs j 0) ≡ g (get_or xs j 0)) → map f xs ≡ map g xs
@@ -36,9 +38,11 @@ abbrev pub arrived_state : State → ℕ → List ℕ → ℕ → UnitHead → L
 arrived_state s slot free at head bytes = record s {
   slots = set s.slots slot (Some (arriving s head));
   links = set (set s.links slot (link s.links at)) at (Some slot);
+  ends = set s.ends head.unit.0 (end_with slot (link s.links at) (link s.ends head.unit.0));
   row = put s.row slot bytes;
   ready = set s.ready slot (ready_after (get_or s.applied head.unit.0 0) (Some (arriving s head)));
   free = free;
+  counts = set s.counts head.unit.0 (get_or s.counts head.unit.0 0 + 1);
   arrivals = s.arrivals + 1;
 }
 
@@ -152,16 +156,26 @@ module _ (s : State) (h : IsKept s) (slot : ℕ) (free : List ℕ) (at : ℕ) (h
       (λ j l. let p = order-at s.slots s.arrivals j 0 l in old-message (get_or (in_order s.slots s.arrivals) j 0) p.held p.is_held))
       ∙ ap (λ m. messages s ++ m ∷ []) new-message
 
-  counts-more : (u : ℕ) → count_by (has_unit u) (arrived_state s slot free at head bytes).slots ≡ count_by (λ m. is_of u m.head) (messages (arrived_state s slot free at head bytes))
+  counts-more : (u : ℕ) → get_or (arrived_state s slot free at head bytes).counts u 0 ≡ count_by (λ m. is_of u m.head) (messages (arrived_state s slot free at head bytes))
   counts-more u =
-      let test : Option Held → ℕ = λ o. cond (has_unit u o) 1 0 in
       let of_message : Message → ℕ = λ m. cond (is_of u m.head) 1 0 in
-      let none : test (in_slot s.slots slot) ≡ 0 = ap test put-in.empty in
-      let slots = sum_by-set test s.slots slot (Some (arriving s head)) None slot_in in
-      let listed = sum_by_push of_message (messages s) (record { slot = slot; head = head; content = bytes }) in
-      let before : sum_by test s.slots ≡ sum_by of_message (messages s) = h.counts u in
-      let all : sum_by of_message (messages (arrived_state s slot free at head bytes)) ≡ sum_by of_message (messages s ++ record { slot = slot; head = head; content = bytes } ∷ []) = ap (sum_by of_message) messages-more in
-      omega arith
+      let new : Message = record { slot = slot; head = head; content = bytes } in
+      let listed = sum_by_push of_message (messages s) new in
+      let before : get_or s.counts u 0 ≡ sum_by of_message (messages s) = h.counted u in
+      let all : sum_by of_message (messages (arrived_state s slot free at head bytes)) ≡ sum_by of_message (messages s ++ new ∷ []) = ap (sum_by of_message) messages-more in
+      elim (cases_eq u head.unit.0) [
+        | inl own ↦
+            let one : of_message new ≡ 1 = rw (eq-eqb head.unit.0 u (sym own)) refl in
+            let now : get_or (set s.counts head.unit.0 (get_or s.counts head.unit.0 0 + 1)) u 0 ≡ get_or s.counts u 0 + 1 =
+            ap (λ w. get_or (set s.counts head.unit.0 (get_or s.counts head.unit.0 0 + 1)) w 0) own
+            ∙ get_or-set_same s.counts head.unit.0 _ 0 (omega (arith, a.unit_in, h.count_each))
+            ∙ ap (λ w. get_or s.counts w 0 + 1) (sym own) in
+            omega arith
+        | inr other ↦
+            let none : of_message new ≡ 0 = rw (ne_eqb head.unit.0 u (λ e. other (sym e))) refl in
+            let now : get_or (set s.counts head.unit.0 (get_or s.counts head.unit.0 0 + 1)) u 0 ≡ get_or s.counts u 0 = get_or-set_other s.counts head.unit.0 u _ 0 other in
+            omega arith
+      ]
 
   ready-more : (arrived_state s slot free at head bytes).ready ≡ map (ready_by s.applied) (arrived_state s slot free at head bytes).slots
   ready-more =
@@ -195,16 +209,21 @@ module _ (s : State) (h : IsKept s) (slot : ℕ) (free : List ℕ) (at : ℕ) (h
     small = h.small;
     slot_each = length-set s.slots slot (Some (arriving s head)) ∙ h.slot_each;
     link_each = length-set (set s.links slot (link s.links at)) at (Some slot) ∙ length-set s.links slot (link s.links at) ∙ h.link_each;
+    end_each = length-set s.ends head.unit.0 _ ∙ h.end_each;
     row_each = length-set s.row.slots slot _ ∙ h.row_each;
     width = h.width;
     applied_each = h.applied_each;
     recorded_each = h.recorded_each;
+    count_each = length-set s.counts head.unit.0 _ ∙ h.count_each;
     versions = h.versions;
     held_in = held-more;
     arrived_once = arrived-once;
     version_once = version-once;
     chained = chained-more s.slots (arrived_state s slot free at head bytes).slots slot (arriving s head) put-in (length-set s.slots slot (Some (arriving s head)))
         s.links s.applied h.chained (omega (arith, h.link_each, h.slot_each, h.applied_each)) (omega (arith, a.unit_in, h.applied_each)) slot_in (unwritten s h) at a.place a.unwritten not-held;
+    ended = λ u in'. ended-more s.slots (arrived_state s slot free at head bytes).slots slot (arriving s head) put-in (length-set s.slots slot (Some (arriving s head)))
+        s.links s.applied h.chained (omega (arith, h.link_each, h.slot_each, h.applied_each)) (omega (arith, a.unit_in, h.applied_each)) slot_in (unwritten s h) at a.place
+        s.ends (omega (arith, h.end_each, h.applied_each)) u (h.ended u in');
     ready_are = ready-more;
     free_in = λ i l. subst (λ k. k < s.limit) (free-same i l) (h.free_in i (omega (arith, free-more)));
     free_empty = λ i l.
@@ -213,7 +232,7 @@ module _ (s : State) (h : IsKept s) (slot : ℕ) (free : List ℕ) (at : ℕ) (h
     free_once = λ i j l m same. h.free_once i j (omega (arith, free-more)) (omega (arith, free-more)) (free-same i l ∙ same ∙ sym (free-same j m));
     others_held = omega (arith, h.others_held, free-more, length-more);
     arrivals_are = omega (arith, h.arrivals_are, length-more);
-    counts = counts-more;
+    counted = counts-more;
   }
 
 -- the last message is the one that arrived
@@ -234,3 +253,9 @@ arrivals-fit s h room =
     let all : sum s.applied ≤ length s.applied * 2 ^ 32 = sum_by-le (λ x. x) (2 ^ 32) s.applied (All-from_get_or (λ x. x ≤ 2 ^ 32) s.applied 0 (λ i _. omega (arith, h.versions i))) in
     let most : length s.applied * 2 ^ 32 ≤ 2 ^ 20 * 2 ^ 32 = mul-le-mul_right {m = length s.applied} {n = 2 ^ 20} (2 ^ 32) few in
     omega (arith, h.arrivals_are, h.small)
+
+-- as has the count of each unit
+pub count-fits : (s : State) → IsKept s → length (messages s) < s.limit → (u : ℕ) → get_or s.counts u 0 + 1 < 2 ^ 32
+count-fits s h room u =
+    let few = count_by-le-length (λ m. is_of u m.head) (messages s) in
+    omega (arith, h.counted u, h.small)

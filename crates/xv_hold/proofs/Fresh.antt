@@ -1,5 +1,5 @@
 -- A hold that nothing was put into keeps what each hold keeps.
-use Rattle.std.proofs.Common.{◌≡◌, ℕ, zero, suc, ◌+◌, ◌^◌, ◌<◌, cond, [], ◌∷◌, ◌++◌, length, map, get_or, replicate, Some, None, sym, refl, ap, ◌∙◌, arith, inl, inr, add-one}
+use Rattle.std.proofs.Common.{◌≡◌, ℕ, zero, suc, ◌+◌, ◌^◌, ◌<◌, [], ◌∷◌, ◌++◌, length, map, get_or, replicate, Some, None, sym, refl, ap, ◌∙◌, arith, inl, inr, add-one}
 use Rattle.std.specs.List.{range_with_len, sum_by}
 use Rattle.std.proofs.lemmas.List.{length-replicate, get_or-replicate, get_or_past}
 use Rattle.std.proofs.lemmas.List.FromFn.{length-range_with_len, get_or-range_with_len}
@@ -11,7 +11,7 @@ use Rattle.xv_slots.specs.Row.{empty}
 use Rattle.xv_hold.specs.declared.hold.Held.{Held}
 use Rattle.xv_hold.specs.Arrival.{in_slot}
 use Rattle.xv_hold.specs.Chains.{link, LeadsAbove}
-use Rattle.xv_hold.specs.Kept.{State, IsKept, ready_by, has_unit}
+use Rattle.xv_hold.specs.Kept.{State, IsKept, ready_by}
 
 -- a place of copies of what stands for nothing
 get_or-copies : {X : Type 0} (n k : ℕ) (d : X) → get_or (replicate n d) k d ≡ d
@@ -34,11 +34,13 @@ fresh_state s most = record {
   limit = most;
   slots = replicate most None;
   links = replicate (most + units s) None;
+  ends = replicate (units s) None;
   row = empty most (max_size s);
   ready = replicate most None;
   free = range_with_len 0 most;
   applied = replicate (units s) 0;
   recorded = replicate (units s) 0;
+  counts = replicate (units s) 0;
   arrivals = 0;
 }
 
@@ -57,10 +59,12 @@ fresh-kept s most good small = record {
   small = small;
   slot_each = length-replicate most None;
   link_each = length-replicate (most + units s) None;
+  end_each = length-replicate (units s) None;
   row_each = length-replicate most (replicate (max_size s) 0);
   width = refl;
   applied_each = length-replicate (units s) 0;
   recorded_each = length-replicate (units s) 0;
+  count_each = length-replicate (units s) 0;
   versions = λ u. omega (arith, get_or-copies {X = ℕ} (units s) u 0);
   held_in = λ k h is. absurd (nothing most k h is);
   arrived_once = λ k j h g is _ _. absurd (nothing most k h is);
@@ -68,6 +72,10 @@ fresh-kept s most good small = record {
   chained = record {
     firsts = λ u _. leads-nowhere most (most + units s) (length (replicate most None) + u) u (get_or (replicate (units s) 0) u 0);
     nexts = λ k h is. absurd (nothing most k h is);
+  };
+  ended = λ u _. record {
+    none = λ _. get_or-copies (most + units s) (length (replicate most None) + u) None;
+    last = λ k is. let none : link (replicate (units s) None) u ≡ None = get_or-copies (units s) u None in absurd cc;
   };
   ready_are = sym (map-copies (ready_by (replicate (units s) 0)) most None);
   free_in = λ i l. omega (arith, length-range_with_len 0 most, get_or-range_with_len 0 most i 0 (omega (arith, length-range_with_len 0 most)));
@@ -78,7 +86,7 @@ fresh-kept s most good small = record {
       omega (arith, at, at', same);
   others_held = omega (arith, length-range_with_len 0 most);
   arrivals_are = omega (arith, sum-copies (λ x. x) (units s) 0 refl);
-  counts = λ u. sum-copies (λ o. cond (has_unit u o) 1 0) most None refl;
+  counted = λ u. get_or-copies (units s) u 0;
 }
 
 -- one number more in a row

@@ -3,7 +3,7 @@ use Rattle.std.proofs.Common.{◌≡◌, ℕ, zero, suc, ◌+◌, Bool, not, con
 use Rattle.std.specs.List.{position_or_len}
 use Rattle.std.proofs.lemmas.List.{map-append, take-map, drop-map, map_push}
 use Rattle.std.proofs.lemmas.List.Sums.{sum_by-cons}
-use Rattle.xv_hold.specs.Messages.{Hold, UnitHead, heads, contents, no_head, no_message, is_next, is_of, is_version, count, copies, ready_place, ready_message, arrived, written}
+use Rattle.xv_hold.specs.Messages.{Hold, UnitHead, heads, contents, no_head, no_message, is_next, is_version, copies, ready_place, ready_message, arrived, written}
 
 pub map-remove : {X Y : Type 0} (f : X → Y) (xs : List X) (i : ℕ) → map f (remove xs i) ≡ remove (map f xs) i
 map-remove f xs i =
@@ -52,8 +52,5 @@ pub contents-written : (h : Hold) → contents (written h).messages ≡ remove (
 contents-written h = map-remove (λ m. m.content) h.messages (ready_place h)
 
 -- what is counted is counted by the heads
-pub count-heads : (h : Hold) (unit : ℕ) → count h unit ≡ count_by (is_of unit) (heads h.messages)
-count-heads h unit = count-map (λ m. m.head) (is_of unit) h.messages
-
 pub copies-heads : (h : Hold) (unit version : ℕ) → copies h unit version ≡ count_by (is_version unit version) (heads h.messages)
 copies-heads h unit version = count-map (λ m. m.head) (is_version unit version) h.messages

@@ -5,6 +5,7 @@ pub mod FirstReady
 pub mod Fresh
 pub mod Linking
 pub mod Chained
+pub mod Ends
 pub mod Arriving
 pub mod Writing
 pub mod Heads

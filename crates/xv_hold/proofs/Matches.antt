@@ -1,6 +1,6 @@
 -- The matches of a tournament: played again from one place up, and what the first place then has.
 use Rattle.std.proofs.Common.{◌∷◌, ◌≡◌, ℕ, zero, suc, ◌+◌, ◌-◌, ◌*◌, ◌/◌, ◌<◌, ◌≤◌, ◌⊎◌, List, length, get_or, set, drop, map, replicate, Option, Some, None, sym, refl, ap, ◌∙◌, arith, inl, inr, ⊎_elim, subst}
-use Rattle.std.proofs.lemmas.List.{get_or-set_same, get_or-set_other, length-set, drop-set-lt, drop-set-add, drop-replicate, map-set, get_or-map, get_or-drop, get_or_past, length-map, length-drop}
+use Rattle.std.proofs.lemmas.List.{drop-set-add, drop-replicate, map-set, get_or-map, get_or-drop, get_or_past, length-map, length-drop}
 use Rattle.std.proofs.lemmas.Bool.{cases_lt, cases_eq, lt-ltb, le-ltb}
 use Rattle.xv_hold.specs.declared.ready.Entry.{Entry}
 use Rattle.xv_hold.specs.Tournament.{place, entry_of, arrival_of, arrivals_of, earlier, IsWonBut, IsTournament, NoneReady, IsEarliest}
@@ -12,33 +12,6 @@ pub record IsReplayed (count : ℕ) (before places : List (Option Entry)) (at : 
   pub some : 0 < at
   pub won : IsWonBut count places (at / 2)
   pub below : drop count places ≡ drop count before
-
--- one match played
-pub won-step : (count : ℕ) (ps : List (Option Entry)) (at : ℕ) (e : Option Entry) → length ps ≡ count + count → 0 < at → at < count
-    → IsWonBut count ps at → e ≡ earlier (place ps (at + at)) (place ps (at + at + 1)) → IsWonBut count (set ps at e) (at / 2)
-won-step count ps at e size some in' won is i low high other = elim (cases_eq i at) [
-  | inl same ↦
-      let P : ℕ → Type 0 = λ n. place (set ps at e) n ≡ earlier (place (set ps at e) (n + n)) (place (set ps at e) (n + n + 1)) in
-      let left : place (set ps at e) (at + at) ≡ place ps (at + at) = get_or-set_other ps at (at + at) e None (λ h. omega arith) in
-      let right : place (set ps at e) (at + at + 1) ≡ place ps (at + at + 1) = get_or-set_other ps at (at + at + 1) e None (λ h. omega arith) in
-      subst P (sym same) (get_or-set_same ps at e None (omega arith) ∙ is ∙ rw (left, right) refl)
-  | inr apart ↦
-      let left : place (set ps at e) (i + i) ≡ place ps (i + i) = get_or-set_other ps at (i + i) e None (λ h. other (omega arith)) in
-      let right : place (set ps at e) (i + i + 1) ≡ place ps (i + i + 1) = get_or-set_other ps at (i + i + 1) e None (λ h. other (omega arith)) in
-      get_or-set_other ps at i e None apart ∙ won i low high apart ∙ rw (left, right) refl
-]
-
-pub replayed-step : (count : ℕ) (before ps : List (Option Entry)) (at up : ℕ) (e : Option Entry) → IsReplayed count before ps at → 1 < at → up ≡ at / 2
-    → e ≡ earlier (place ps (up + up)) (place ps (up + up + 1)) → IsReplayed count before (set ps up e) up
-replayed-step count before ps at up e h more is won =
-    let in' : up < count = omega (arith, h.within) in
-    record {
-      size = length-set ps up e ∙ h.size;
-      within = omega arith;
-      some = omega arith;
-      won = won-step count ps up e h.size (omega arith) in' (subst (IsWonBut count ps) (sym is) h.won) won;
-      below = drop-set-lt count ps up e in' ∙ h.below;
-    }
 
 -- of two entries, the first is there where the second is, and arrived no later
 abbrev NotAfter : Option Entry → Option Entry → Type 0
@@ -165,9 +138,6 @@ none-ready count ps t is k = elim (cases_lt k count) [
       seen count ps k t.size l ∙ ap arrival_of (none-later (place ps (count + k)) least)
   | inr g ↦ get_or_past (arrivals_of count ps) k None (omega (arith, length-seen count ps t.size))
 ]
-
-none-at-all : (ps : List (Option Entry)) (count : ℕ) → length ps ≡ count + count → count ≡ 0 → NoneReady (arrivals_of count ps)
-none-at-all ps count l z k = get_or_past (arrivals_of count ps) k None (omega (arith, length-seen count ps l))
 
 -- an entry that is there is of its slot
 own-entry : (k : ℕ) (e : Option Entry) (f : Entry) → e ≡ entry_of k (arrival_of e) → e ≡ Some f → f.slot ≡ k

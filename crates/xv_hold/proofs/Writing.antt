@@ -1,5 +1,5 @@
 -- The message that is ready is written and taken out: the list is without it, and the hold keeps what each hold keeps.
-use Rattle.std.proofs.Common.{◌≡◌, ◌≢◌, ℕ, ◌+◌, ◌^◌, ◌<◌, ◌⊎◌, cond, List, [], ◌∷◌, ◌++◌, length, map, get_or, set, take, remove, count_by, Option, Some, None, sym, refl, ap, ◌∙◌, arith, inl, inr, ⊎_elim, subst, ne_eqb, eqb-true}
+use Rattle.std.proofs.Common.{◌≡◌, ◌≢◌, ℕ, ◌+◌, ◌-◌, ◌^◌, ◌<◌, ◌≤◌, ◌⊎◌, ◌==◌, cond, List, [], ◌∷◌, ◌++◌, length, map, get_or, set, take, remove, count_by, Option, Some, None, sym, refl, ap, ◌∙◌, arith, inl, inr, ⊎_elim, subst, eq-eqb, ne_eqb, eqb-true}
 use Rattle.std.specs.Prelude.{IfSome}
 use Rattle.std.specs.List.{sum_by}
 use Rattle.std.proofs.lemmas.List.{ext_get_or, get_or-map, length-map, length_push, get_or_push, get_or_append_left, get_or-set_same, get_or-set_other, length-set}
@@ -11,13 +11,14 @@ use Rattle.xv_slots.specs.Row.{content}
 use Rattle.xv_hold.specs.declared.hold.Held.{Held}
 use Rattle.xv_hold.specs.Messages.{Message, UnitHead, no_message, is_of, ready_place, ready_message, written}
 use Rattle.xv_hold.specs.Arrival.{in_slot, head_of, slot_of, in_order, message_in}
-use Rattle.xv_hold.specs.Chains.{link, LeadsAbove}
-use Rattle.xv_hold.specs.Kept.{State, IsKept, IsHeldIn, messages, seen_of, ready_by, ready_after, with_next, has_unit}
+use Rattle.xv_hold.specs.Chains.{link, LeadsAbove, end_without}
+use Rattle.xv_hold.specs.Kept.{State, IsKept, IsHeldIn, messages, seen_of, ready_by, ready_after, with_next}
 use Rattle.xv_hold.proofs.Walk.{held-within}
 use Rattle.xv_hold.proofs.Places.{ArrivedOnce, none_or_some, slot-found, slot-none, slot-same, order-at, order-less}
 use Rattle.xv_hold.proofs.FirstReady.{IsReadyIn, ready-at, ready-length, messages-length}
 use Rattle.xv_hold.proofs.Linking.{IsPut, put-apart, put-keeps}
 use Rattle.xv_hold.proofs.Chained.{chained-less}
+use Rattle.xv_hold.proofs.Ends.{ended-less}
 use Rattle.xv_hold.proofs.Arriving.{map-same, unwritten}
 use Rattle.xv_hold.proofs.Heads.{map-remove}
 
@@ -26,10 +27,12 @@ abbrev pub written_state : State → ℕ → UnitHead → State
 written_state s slot head = record s {
   slots = set s.slots slot None;
   links = set s.links (length s.slots + head.unit.0) (link s.links slot);
+  ends = set s.ends head.unit.0 (end_without (link s.links slot) (link s.ends head.unit.0));
   ready = with_next (set s.slots slot None) (link s.links slot) head.version (set s.ready slot None);
   free = s.free ++ slot ∷ [];
   applied = set s.applied head.unit.0 head.version;
   recorded = set s.recorded head.unit.0 head.at;
+  counts = set s.counts head.unit.0 (get_or s.counts head.unit.0 0 - 1);
 }
 
 module _ (s : State) (h : IsKept s) (slot : ℕ) (r : IsReadyIn s slot) (small : r.held.head.version < 2 ^ 32) where
@@ -121,17 +124,40 @@ module _ (s : State) (h : IsKept s) (slot : ℕ) (r : IsReadyIn s slot) (small :
   head-is : (ready_message (seen_of s)).head ≡ g.head
   head-is = ap (λ m. m.head) r.message ∙ ap head_of r.is_held
 
-  counts-less : (u : ℕ) → count_by (has_unit u) (written_state s slot g.head).slots ≡ count_by (λ m. is_of u m.head) (messages (written_state s slot g.head))
-  counts-less u =
-      let test : Option Held → ℕ = λ o. cond (has_unit u o) 1 0 in
+  -- what is counted of each unit, before and after
+  abbrev counted-of : ℕ → ℕ
+  counted-of u = cond (g.head.unit.0 == u) 1 0
+
+  counts-step : (u : ℕ) → get_or s.counts u 0 ≡ count_by (λ m. is_of u m.head) (messages (written_state s slot g.head)) + counted-of u
+  counts-step u =
       let of_message : Message → ℕ = λ m. cond (is_of u m.head) 1 0 in
-      let own : test (in_slot s.slots slot) ≡ cond (is_of u g.head) 1 0 = ap test r.is_held in
-      let slots = sum_by-set test s.slots slot None None slot_in in
       let listed = sum_by-remove of_message (messages s) (ready_place (seen_of s)) no_message place_in in
-      let one : of_message (ready_message (seen_of s)) ≡ cond (is_of u g.head) 1 0 = ap (λ x. cond (is_of u x) 1 0) head-is in
-      let before : sum_by test s.slots ≡ sum_by of_message (messages s) = h.counts u in
+      let one : of_message (ready_message (seen_of s)) ≡ counted-of u = ap (λ x. cond (is_of u x) 1 0) head-is in
+      let before : get_or s.counts u 0 ≡ sum_by of_message (messages s) = h.counted u in
       let all : sum_by of_message (messages (written_state s slot g.head)) ≡ sum_by of_message (remove (messages s) (ready_place (seen_of s))) = ap (sum_by of_message) messages-less in
       omega arith
+
+  pub count-some : 1 ≤ get_or s.counts g.head.unit.0 0
+  count-some =
+      let one : counted-of g.head.unit.0 ≡ 1 = rw (eq-eqb g.head.unit.0 g.head.unit.0 refl) refl in
+      omega (arith, counts-step g.head.unit.0)
+
+  counts-less : (u : ℕ) → get_or (written_state s slot g.head).counts u 0 ≡ count_by (λ m. is_of u m.head) (messages (written_state s slot g.head))
+  counts-less u =
+      let step = counts-step u in
+      elim (cases_eq u g.head.unit.0) [
+        | inl own ↦
+            let one : counted-of u ≡ 1 = rw (eq-eqb g.head.unit.0 u (sym own)) refl in
+            let now : get_or (set s.counts g.head.unit.0 (get_or s.counts g.head.unit.0 0 - 1)) u 0 ≡ get_or s.counts u 0 - 1 =
+            ap (λ w. get_or (set s.counts g.head.unit.0 (get_or s.counts g.head.unit.0 0 - 1)) w 0) own
+            ∙ get_or-set_same s.counts g.head.unit.0 _ 0 (omega (arith, unit_in, h.count_each, h.applied_each))
+            ∙ ap (λ w. get_or s.counts w 0 - 1) (sym own) in
+            omega arith
+        | inr apart ↦
+            let none : counted-of u ≡ 0 = rw (ne_eqb g.head.unit.0 u (λ e. apart (sym e))) refl in
+            let now : get_or (set s.counts g.head.unit.0 (get_or s.counts g.head.unit.0 0 - 1)) u 0 ≡ get_or s.counts u 0 = get_or-set_other s.counts g.head.unit.0 u _ 0 apart in
+            omega arith
+      ]
 
   -- a message is ready by its number as before, unless its version is the next one now
   same-by : (j : ℕ) (o : Option Held) → in_slot s.slots j ≡ o → j ≢ slot
@@ -261,10 +287,12 @@ module _ (s : State) (h : IsKept s) (slot : ℕ) (r : IsReadyIn s slot) (small :
     small = h.small;
     slot_each = length-set s.slots slot None ∙ h.slot_each;
     link_each = length-set s.links (length s.slots + g.head.unit.0) (link s.links slot) ∙ h.link_each;
+    end_each = length-set s.ends g.head.unit.0 _ ∙ h.end_each;
     row_each = h.row_each;
     width = h.width;
     applied_each = length-set s.applied g.head.unit.0 g.head.version ∙ h.applied_each;
     recorded_each = length-set s.recorded g.head.unit.0 g.head.at ∙ h.recorded_each;
+    count_each = length-set s.counts g.head.unit.0 _ ∙ h.count_each;
     versions = λ u. elim (cases_eq u g.head.unit.0) [
       | inl own ↦ subst (λ w. get_or (set s.applied g.head.unit.0 g.head.version) w 0 < 2 ^ 32) (sym own) (rw now-own small)
       | inr apart ↦ rw (now-other u apart) (h.versions u)
@@ -274,6 +302,8 @@ module _ (s : State) (h : IsKept s) (slot : ℕ) (r : IsReadyIn s slot) (small :
     version_once = λ k j f e is there unit version. h.version_once k j f e (kept k f is) (kept j e there) unit version;
     chained = chained-less s.slots (written_state s slot g.head).slots slot g taken (length-set s.slots slot None) s.links s.applied h.chained
         (omega (arith, h.link_each, h.slot_each, h.applied_each)) unit_in (unwritten s h) version-is;
+    ended = λ u in'. ended-less s.slots (written_state s slot g.head).slots slot g taken (length-set s.slots slot None)
+        s.links s.applied h.chained (omega (arith, h.link_each, h.slot_each, h.applied_each)) unit_in (unwritten s h) s.ends (omega (arith, h.end_each, h.applied_each)) u (h.ended u in');
     ready_are = ready-less;
     free_in = λ i l. ⊎_elim
         (λ old. rw (free-old i old) (h.free_in i old))
@@ -288,7 +318,7 @@ module _ (s : State) (h : IsKept s) (slot : ℕ) (r : IsReadyIn s slot) (small :
     arrivals_are =
         let summed = sum_by-set (λ x. x) s.applied g.head.unit.0 g.head.version 0 unit_in in
         omega (arith, h.arrivals_are, length-less, version-is);
-    counts = counts-less;
+    counted = counts-less;
   }
 
   pub seen-less : seen_of (written_state s slot g.head) ≡ written (seen_of s)

@@ -25,6 +25,20 @@ pub record IsChained (slots : List (Option Held)) (links : List (Option ℕ)) (a
   pub firsts : (u : ℕ) → u < length applied → LeadsAbove slots u (get_or applied u 0) (link links (length slots + u))
   pub nexts : (k : ℕ) (h : Held) → in_slot slots k ≡ Some h → LeadsAbove slots h.head.unit.0 h.head.version (link links k)
 
+-- the last slot of a unit's chain, from which no link leads on; none where the unit's own link leads nowhere
+pub record IsEnd (slots : List (Option Held)) (links : List (Option ℕ)) (unit : ℕ) (end : Option ℕ) : Type 0 where
+  pub none : end ≡ None → link links (length slots + unit) ≡ None
+  pub last : (k : ℕ) → end ≡ Some k → (h : Held) × (in_slot slots k ≡ Some h) × (h.head.unit.0 ≡ unit) × (link links k ≡ None)
+
+-- the last slot once a slot was put before `next`, and once the first was taken out, which was before `next`
+abbrev pub end_with : ℕ → Option ℕ → Option ℕ → Option ℕ
+end_with slot None end = Some slot
+end_with slot (Some next) end = end
+
+abbrev pub end_without : Option ℕ → Option ℕ → Option ℕ
+end_without None end = None
+end_without (Some next) end = end
+
 -- what a walk along the chain of a unit from its first link needs: each link leads to a message of the unit, and on
 -- to a greater version
 pub record IsWalkable (slots : List (Option Held)) (links : List (Option ℕ)) (unit : ℕ) : Type 0 where

@@ -8,10 +8,12 @@ state_of h = record {
   limit = h.limit;
   slots = h.slots.items;
   links = h.links.items;
+  ends = h.ends.items;
   row = h.contents;
   ready = h.ready;
   free = h.free.items;
   applied = h.applied.items;
   recorded = h.recorded.items;
+  counts = h.counts.items;
   arrivals = h.arrivals;
 }

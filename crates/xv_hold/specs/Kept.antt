@@ -1,23 +1,25 @@
 -- What a hold keeps: its parts as plain values, what is seen of them, and what holds of them.
-use Rattle.std.specs.Prelude.{◌≡◌, ◌<◌, ◌^◌, ℕ, ◌+◌, ◌==◌, Bool, false, List, length, map, sum, set, get_or, count_by, Option, Some, None, if◌then◌else◌}
+use Rattle.std.specs.Prelude.{◌≡◌, ◌<◌, ◌^◌, ℕ, ◌+◌, ◌==◌, List, length, map, sum, set, get_or, count_by, Option, Some, None, if◌then◌else◌}
 use Rattle.xv_base.specs.Units.{Shape, units, max_size}
 use Rattle.xv_base.specs.Layout.{IsGood}
 use Rattle.xv_slots.specs.Row.{Row}
 use Rattle.xv_hold.specs.declared.hold.Held.{Held}
 use Rattle.xv_hold.specs.Messages.{Message, Hold, is_of}
 use Rattle.xv_hold.specs.Arrival.{in_slot, messages_of}
-use Rattle.xv_hold.specs.Chains.{IsChained}
+use Rattle.xv_hold.specs.Chains.{IsChained, IsEnd, link}
 
 pub record State : Type 0 where
   pub shape : Shape
   pub limit : ℕ
   pub slots : List (Option Held)
   pub links : List (Option ℕ)
+  pub ends : List (Option ℕ)
   pub row : Row
   pub ready : List (Option ℕ)
   pub free : List ℕ
   pub applied : List ℕ
   pub recorded : List ℕ
+  pub counts : List ℕ
   pub arrivals : ℕ
 
 -- the messages in order of arrival, and all that is seen
@@ -43,11 +45,6 @@ abbrev pub with_next : List (Option Held) → Option ℕ → ℕ → List (Optio
 with_next slots None version ready = ready
 with_next slots (Some next) version ready = set ready next (ready_after version (in_slot slots next))
 
--- whether a slot has a message of a unit
-abbrev pub has_unit : ℕ → Option Held → Bool
-has_unit unit None = false
-has_unit unit (Some h) = is_of unit h.head
-
 -- a message is of a unit of the layout, not written yet, and numbered
 pub record IsHeldIn (s : State) (h : Held) : Type 0 where
   pub unit_in : h.head.unit.0 < units s.shape
@@ -59,20 +56,23 @@ pub record IsKept (s : State) : Type 0 where
   pub small : s.limit < 2 ^ 32
   pub slot_each : length s.slots ≡ s.limit
   pub link_each : length s.links ≡ s.limit + units s.shape
+  pub end_each : length s.ends ≡ units s.shape
   pub row_each : length s.row.slots ≡ s.limit
   pub width : s.row.width ≡ max_size s.shape
   pub applied_each : length s.applied ≡ units s.shape
   pub recorded_each : length s.recorded ≡ units s.shape
+  pub count_each : length s.counts ≡ units s.shape
   pub versions : (u : ℕ) → get_or s.applied u 0 < 2 ^ 32
   pub held_in : (k : ℕ) (h : Held) → in_slot s.slots k ≡ Some h → IsHeldIn s h
   pub arrived_once : (k j : ℕ) (h g : Held) → in_slot s.slots k ≡ Some h → in_slot s.slots j ≡ Some g → h.arrival ≡ g.arrival → k ≡ j
   pub version_once : (k j : ℕ) (h g : Held) → in_slot s.slots k ≡ Some h → in_slot s.slots j ≡ Some g
       → h.head.unit.0 ≡ g.head.unit.0 → h.head.version ≡ g.head.version → k ≡ j
   pub chained : IsChained s.slots s.links s.applied
+  pub ended : (u : ℕ) → u < units s.shape → IsEnd s.slots s.links u (link s.ends u)
   pub ready_are : s.ready ≡ map (ready_by s.applied) s.slots
   pub free_in : (i : ℕ) → i < length s.free → get_or s.free i 0 < s.limit
   pub free_empty : (i : ℕ) → i < length s.free → in_slot s.slots (get_or s.free i 0) ≡ None
   pub free_once : (i j : ℕ) → i < length s.free → j < length s.free → get_or s.free i 0 ≡ get_or s.free j 0 → i ≡ j
   pub others_held : length s.free + length (messages s) ≡ s.limit
   pub arrivals_are : s.arrivals ≡ length (messages s) + sum s.applied
-  pub counts : (u : ℕ) → count_by (has_unit u) s.slots ≡ count_by (λ m. is_of u m.head) (messages s)
+  pub counted : (u : ℕ) → get_or s.counts u 0 ≡ count_by (λ m. is_of u m.head) (messages s)

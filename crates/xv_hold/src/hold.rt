@@ -4,8 +4,8 @@ ghost use Rattle.std.specs.Prelude.{◌≡◌, ◌+◌, ◌<◌, ◌≤◌, leng
 ghost use Rattle.std.specs.List.{range_with_len};
 ghost use Rattle.xv_base.specs.Units.{units, size};
 ghost use Rattle.xv_hold.specs.Messages.{fresh, arrived, written, version, at, count, copies, last_slot, ready_slot, ready_message};
-ghost use Rattle.xv_hold.specs.Chains.{IsWalkable, IsLastBelow, is_below};
-ghost use Rattle.xv_hold.specs.Kept.{has_unit, ready_after, with_next};
+ghost use Rattle.xv_hold.specs.Chains.{IsWalkable, IsEnd, IsLastBelow, is_below, end_with, end_without};
+ghost use Rattle.xv_hold.specs.Kept.{ready_after, with_next};
 
 use crate::ready::ReadySlots;
 use std::alloc::Global;
@@ -24,9 +24,10 @@ struct Held {
 /// that was written last, and its `at`.
 ///
 /// A message lies in a slot, in no order. The messages of a unit are a chain with rising versions: a link leads from
-/// the unit to its first, and one from each message to the next. A slot is ready where its message is its unit's
-/// next version, which only the first of a chain can be. So a message that arrives is put into its chain by a walk
-/// along it, one that is written shows which comes next, and the rest is one path of the ready slots' tournament.
+/// the unit to its first, and one from each message to the next; its last is known. A slot is ready where its message
+/// is its unit's next version, which only the first of a chain can be. So a message that arrives is put behind its
+/// chain's last, or, where a greater version came before it, into the chain by a walk along the smaller ones; one that
+/// is written shows which comes next; and the rest is one path of the ready slots' tournament.
 #[derive(Drop)]
 pub struct Hold {
     layout: Layout,
@@ -34,12 +35,16 @@ pub struct Hold {
     slots: Vec<Option<Held>>,
     /// Each slot's link, and after those each unit's.
     links: Vec<Option<u32>>,
+    /// Each unit's last slot.
+    ends: Vec<Option<u32>>,
     contents: Slots,
     ready: ReadySlots,
     /// The slots that hold nothing.
     free: Vec<u32>,
     applied: Vec<u32>,
     recorded: Vec<u64>,
+    /// How many messages of each unit are held.
+    counts: Vec<u32>,
     /// How many messages have arrived. Each had a version of its own, so the number cannot run over.
     arrivals: u64,
 }
@@ -70,10 +75,16 @@ impl Hold {
         let Ok(links) = Vec::from_elem(alloc, None, limit as usize + units) else {
             return Err(NoMemory);
         };
+        let Ok(ends) = Vec::from_elem(alloc, None, units) else {
+            return Err(NoMemory);
+        };
         let Ok(applied) = Vec::from_elem(alloc, 0, units) else {
             return Err(NoMemory);
         };
         let Ok(recorded) = Vec::from_elem(alloc, 0, units) else {
+            return Err(NoMemory);
+        };
+        let Ok(counts) = Vec::from_elem(alloc, 0, units) else {
             return Err(NoMemory);
         };
         let free = all_slots(alloc, limit)?;
@@ -84,11 +95,13 @@ impl Hold {
             limit,
             slots,
             links,
+            ends,
             contents,
             ready,
             free,
             applied,
             recorded,
+            counts,
             arrivals: 0,
         })
     }
@@ -106,17 +119,22 @@ impl Hold {
             unreachable!()
         };
         let place = slot as usize;
+        let unit = head.unit.0 as usize;
         let held = Held {
             head,
             arrival: self.arrivals,
         };
-        let before = link_below(&self.slots, &self.links, head);
-        self.links[place] = self.links[before];
+        let end = self.ends[unit];
+        let before = link_below(&self.slots, &self.links, end, head);
+        let next = self.links[before];
+        self.links[place] = next;
         self.links[before] = Some(slot);
+        self.ends[unit] = end_with(slot, next, end);
         self.slots[place] = Some(held);
         self.contents.put(slot, bytes);
-        let version = self.applied[head.unit.0 as usize];
+        let version = self.applied[unit];
         self.ready.set(slot, ready_after(&Some(held), version));
+        self.counts[unit] += 1;
         self.arrivals += 1;
     }
 
@@ -161,6 +179,7 @@ impl Hold {
         let next = self.links[place];
         let first = self.limit as usize + unit.0 as usize;
         self.links[first] = next;
+        self.ends[unit.0 as usize] = end_without(next, self.ends[unit.0 as usize]);
         self.slots[place] = None;
         match self.free.push(slot) {
             Ok(()) => {}
@@ -168,6 +187,7 @@ impl Hold {
         }
         self.applied[unit.0 as usize] = version;
         self.recorded[unit.0 as usize] = at;
+        self.counts[unit.0 as usize] -= 1;
         self.ready.set(slot, None);
         make_ready(&mut self.ready, &self.slots, next, version);
     }
@@ -189,14 +209,14 @@ impl Hold {
         self.recorded[unit.0 as usize]
     }
 
-    /// How many messages of a unit are held; they are looked for among all slots.
+    /// How many messages of a unit are held.
     pub fn count(&self, unit: UnitId) -> u32
         ensures { result ≡ count self.now unit.0 }
     {
-        self.slots
-            .iter()
-            .filter(|slot| has_unit(slot, unit))
-            .count() as u32
+        match self.counts.get(unit.0 as usize) {
+            Some(count) => *count,
+            None => 0,
+        }
     }
 }
 
@@ -239,13 +259,23 @@ fn make_ready(ready: &mut ReadySlots, slots: &[Option<Held>], next: Option<u32>,
     }
 }
 
-/// Whether a slot holds a message of a unit.
-fn has_unit(slot: &Option<Held>, unit: UnitId) -> bool
-    ensures { result ≡ has_unit unit.0 slot.now }
+/// The last slot of a chain in which a slot was put before `next`.
+fn end_with(slot: u32, next: Option<u32>, end: Option<u32>) -> Option<u32>
+    ensures { result ≡ end_with slot next end }
 {
-    match slot {
-        Some(held) => held.head.unit.0 == unit.0,
-        None => false,
+    match next {
+        None => Some(slot),
+        Some(_) => end,
+    }
+}
+
+/// The last slot of a chain of which the first was taken out, before `next`.
+fn end_without(next: Option<u32>, end: Option<u32>) -> Option<u32>
+    ensures { result ≡ end_without next end }
+{
+    match next {
+        None => None,
+        Some(_) => end,
     }
 }
 
@@ -260,7 +290,26 @@ fn is_below(slot: &Option<Held>, version: u32) -> bool
 }
 
 /// The link behind which a message goes in its unit's chain: that of the last message below it, or the unit's own.
-fn link_below(slots: &[Option<Held>], links: &[Option<u32>], head: UnitHead) -> usize
+/// That is most often the chain's last.
+fn link_below(
+    slots: &[Option<Held>],
+    links: &[Option<u32>],
+    end: Option<u32>,
+    head: UnitHead,
+) -> usize
+    requires walkable { IsWalkable slots.now links.now head.unit.0 }
+    requires end { IsEnd slots.now links.now head.unit.0 end }
+    ensures { IsLastBelow slots.now links.now head.unit.0 head.version result }
+{
+    match end {
+        Some(end) if is_below(&slots[end as usize], head.version) => end as usize,
+        Some(_) => walk_below(slots, links, head),
+        None => walk_below(slots, links, head),
+    }
+}
+
+/// The same, found by a walk from the chain's first message on.
+fn walk_below(slots: &[Option<Held>], links: &[Option<u32>], head: UnitHead) -> usize
     requires { IsWalkable slots.now links.now head.unit.0 }
     ensures { IsLastBelow slots.now links.now head.unit.0 head.version result }
 {

@@ -12,3 +12,4 @@ mod ready;
 mod tests;
 
 pub use hold::Hold;
+pub use xv_base::UnitHead;

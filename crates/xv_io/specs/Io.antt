@@ -1,17 +1,5 @@
--- What a read does to the bytes that are left, what a write does to the bytes taken, and what counts as a rise.
-use Rattle.std.specs.Prelude.{◌≡◌, ◌↔◌, ℕ, ◌+◌, ◌-◌, ◌^◌, ◌≤◌, min, List, [], ◌++◌, length, take, Option, None, Some, option_map, Result, is_err, if◌then◌else◌, ⊤}
-
--- one more, in a count that stands still at the last value of 64 bits
-abbrev pub next_count : ℕ → ℕ
-next_count n = min (n + 1) (2 ^ 64 - 1)
-
--- a count rose, or stands at its last value
-abbrev pub CountRose : ℕ → ℕ → Type 0
-CountRose old new = next_count old ≤ new
-
--- the count of faults after a call: one more where the call failed
-abbrev pub faults_after : {T E : Type 0} → Result T E → ℕ → ℕ
-faults_after result old = if is_err result then next_count old else old
+-- What a read does to the bytes that are left, and what a write does to the bytes taken.
+use Rattle.std.specs.Prelude.{◌≡◌, ◌↔◌, ℕ, ◌≤◌, List, [], ◌++◌, length, take, Option, None, Some, option_map, ⊤}
 
 -- `bytes` were the first ones left, and the rest is left
 abbrev pub GaveFirst : Option (List ℕ) → Option (List ℕ) → List ℕ → Type 0
@@ -24,6 +12,10 @@ Moves left rest old new = option_map (λ xs. old ++ xs) left ≡ option_map (λ 
 -- some bytes, at least n, were the first ones left, and the rest is left
 abbrev pub GaveAtLeast : ℕ → Option (List ℕ) → Option (List ℕ) → Type 0
 GaveAtLeast n old new = (bytes : List ℕ) × GaveFirst old new bytes × (n ≤ length bytes)
+
+-- the same, at most n
+abbrev pub GaveAtMost : ℕ → Option (List ℕ) → Option (List ℕ) → Type 0
+GaveAtMost n old new = (bytes : List ℕ) × GaveFirst old new bytes × (length bytes ≤ n)
 
 -- no bytes are left, where that is told
 abbrev pub IsAtEnd : Option (List ℕ) → Type 0

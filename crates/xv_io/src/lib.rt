@@ -2,14 +2,13 @@
 // the two calls that take a whole input and write a whole text.
 //
 // Contracts see a source as the bytes that are left, where it tells them, and a sink as the bytes taken, where
-// it tells them, each beside a count of faults that never falls. The layer above may rely on this: an input
-// comes whole or not at all, a text that is not written whole has left a front of itself, and a fault has
-// raised the count of the object that it names.
+// it tells them, each beside a count of faults, and a sink also as whether it keeps something back. The layer
+// above may rely on this: an input comes whole or not at all, and at most one byte past its limit is taken; a
+// text that is not written whole has left a front of itself; a count of faults rises exactly where a fault is
+// answered; and a flush that does not fail leaves nothing kept back.
 #![tactic(auto)]
 
-mod count;
 mod memory;
-mod plan;
 mod reading;
 mod sink;
 mod source;

@@ -1,15 +1,13 @@
 //! A source and a sink in memory, whose calls fail by a plan.
 
-ghost use Rattle.std.specs.Prelude.{◌≡◌, ◌↔◌, ◌<◌, ◌≤◌, ◌-◌, ◌++◌, ◌||◌, [], length, take, min, IfOk, OnErr, is_err, nat_le};
-ghost use Rattle.xv_io.specs.Io.{faults_after, next_count};
-ghost use Rattle.xv_io.specs.Memory.{is_listed};
+ghost use Rattle.std.specs.Prelude.{◌≡◌, ◌↔◌, ◌<◌, ◌-◌, ◌++◌, ◌||◌, [], true, false, length, take, min, IfOk, OnOk, OnErr, is_err, nat_le};
+ghost use Rattle.xv_base.specs.Calls.{after_call, fails_next, planned};
 
-use crate::plan::Plan;
 use crate::sink::Sink;
 use crate::source::Source;
 use std::alloc::{AllocError, Global};
 use std::marker::Model;
-use xv_base::{Failed, NoMemory};
+use xv_base::{Failed, NoMemory, PlannedCalls};
 
 /// An input in memory, which tells its bytes.
 #[derive(Drop)]
@@ -17,7 +15,7 @@ pub struct MemSource {
     bytes: Vec<u8>,
     at: usize,
     piece: u32,
-    plan: Plan,
+    plan: PlannedCalls,
 }
 
 impl Model for MemSource {
@@ -27,7 +25,7 @@ impl Model for MemSource {
     ghost Value = { SourceState };
 
     ghost view = { λ s. record
-        { left = drop s.at s.bytes.items; piece = s.piece; fails = s.plan.fails.items; calls = s.plan.calls; faults = s.plan.faults } };
+        { left = drop s.at s.bytes.items; piece = s.piece; plan = s.plan } };
 
     ghost invariant = { λ s. (s.at ≤ length s.bytes.items) × (0 < s.piece) };
 }
@@ -43,13 +41,13 @@ impl MemSource {
     ) -> Result<MemSource, NoMemory>
         requires { 0 < piece }
         ensures { IfOk result (λ s. s ≡ record
-            { left = bytes.now; piece = piece; fails = fails.now; calls = 0; faults = 0 }) }
+            { left = bytes.now; piece = piece; plan = planned fails.now }) }
     {
         Ok(MemSource {
             bytes: Vec::from_slice(alloc, bytes).map_err(no_memory)?,
             at: 0,
             piece,
-            plan: Plan::new(alloc, fails)?,
+            plan: PlannedCalls::new(alloc, fails)?,
         })
     }
 }
@@ -59,23 +57,20 @@ impl Source for MemSource {
 
     ghost left = { λ s. Some s.left };
 
-    ghost faults = { λ s. s.faults };
+    ghost faults = { λ s. s.plan.faults };
 
     /// Gives as many bytes as there are, fit and lie within the piece. Fails exactly where the plan has the
     /// call's number.
     fn read(&mut self, into: &mut [u8]) -> Result<usize, Failed>
         requires { 0 < length into.old }
-        ensures fails { is_err result ≡ is_listed self.old.fails self.new.calls }
+        ensures fails { is_err result ≡ fails_next self.old.plan }
         ensures amount { IfOk result
             (λ n. n ≡ min (length self.old.left) (min self.old.piece (length into.old))) }
         ensures gives { IfOk result (λ n. self.old.left ≡ take n into.new ++ self.new.left) }
         ensures ends { IfOk result (λ n. (n ≡ 0) ↔ (self.old.left ≡ [])) }
         ensures stays { OnErr result (self.new.left ≡ self.old.left) }
-        ensures calls { self.new.calls ≡ next_count self.old.calls }
-        ensures counts { self.old.faults ≤ self.new.faults }
-        ensures faults { self.new.faults ≡ faults_after result self.old.faults }
+        ensures plan { self.new.plan ≡ after_call (is_err result) self.old.plan }
         ensures piece { self.new.piece ≡ self.old.piece }
-        ensures plan { self.new.fails ≡ self.old.fails }
     {
         self.plan.begin()?;
         let n = copy_front(&self.bytes[self.at..], self.piece as usize, into);
@@ -90,7 +85,8 @@ pub struct MemSink {
     taken: Vec<u8>,
     room: u32,
     piece: u32,
-    plan: Plan,
+    unflushed: bool,
+    plan: PlannedCalls,
 }
 
 impl Model for MemSink {
@@ -100,7 +96,7 @@ impl Model for MemSink {
     ghost Value = { SinkState };
 
     ghost view = { λ s. record
-        { taken = s.taken.items; room = s.room; piece = s.piece; fails = s.plan.fails.items; calls = s.plan.calls; faults = s.plan.faults } };
+        { taken = s.taken.items; room = s.room; piece = s.piece; keeps_back = s.unflushed; plan = s.plan } };
 
     ghost invariant = { λ s. (vec_len s.taken ≤ s.room) × (s.room ≤ vec_capacity s.taken) × (0 < s.piece) };
 }
@@ -111,13 +107,14 @@ impl MemSink {
     pub fn new(alloc: Global, room: u32, piece: u32, fails: &[u32]) -> Result<MemSink, NoMemory>
         requires { 0 < piece }
         ensures { IfOk result (λ s. s ≡ record
-            { taken = []; room = room; piece = piece; fails = fails.now; calls = 0; faults = 0 }) }
+            { taken = []; room = room; piece = piece; keeps_back = false; plan = planned fails.now }) }
     {
         Ok(MemSink {
             taken: Vec::with_capacity(alloc, room as usize).map_err(no_memory)?,
             room,
             piece,
-            plan: Plan::new(alloc, fails)?,
+            unflushed: false,
+            plan: PlannedCalls::new(alloc, fails)?,
         })
     }
 
@@ -134,26 +131,27 @@ impl Sink for MemSink {
 
     ghost taken = { λ s. Some s.taken };
 
-    ghost faults = { λ s. s.faults };
+    ghost faults = { λ s. s.plan.faults };
+
+    ghost keeps_back = { λ s. s.keeps_back };
 
     /// Takes as many bytes as there are, as there is room for and as lie within the piece. Fails exactly where
-    /// the plan has the call's number, or there is no room.
+    /// the plan has the call's number, or there is no room. Whatever it answers, bytes may be kept back from now on.
     fn write(&mut self, bytes: &[u8]) -> Result<usize, Failed>
         requires { 0 < length bytes.now }
         ensures fails { is_err result
-            ≡ (is_listed self.old.fails self.new.calls || nat_le self.old.room (length self.old.taken)) }
+            ≡ (fails_next self.old.plan || nat_le self.old.room (length self.old.taken)) }
         ensures some { IfOk result (λ n. 0 < n) }
         ensures amount { IfOk result
             (λ n. n ≡ min (length bytes.now) (min self.old.piece (self.old.room - length self.old.taken))) }
         ensures takes { IfOk result (λ n. self.new.taken ≡ self.old.taken ++ take n bytes.now) }
         ensures stays { OnErr result (self.new.taken ≡ self.old.taken) }
-        ensures calls { self.new.calls ≡ next_count self.old.calls }
-        ensures counts { self.old.faults ≤ self.new.faults }
-        ensures faults { self.new.faults ≡ faults_after result self.old.faults }
+        ensures keeps_back { self.new.keeps_back ≡ true }
+        ensures plan { self.new.plan ≡ after_call (is_err result) self.old.plan }
         ensures room { self.new.room ≡ self.old.room }
         ensures piece { self.new.piece ≡ self.old.piece }
-        ensures plan { self.new.fails ≡ self.old.fails }
     {
+        self.unflushed = true;
         self.plan.begin()?;
         let free = self.room as usize - self.taken.len();
         if free == 0 {
@@ -166,18 +164,19 @@ impl Sink for MemSink {
         }
     }
 
-    /// Fails exactly where the plan has the call's number.
+    /// Fails exactly where the plan has the call's number, and then keeps back what it kept back before.
     fn flush(&mut self) -> Result<(), Failed>
-        ensures fails { is_err result ≡ is_listed self.old.fails self.new.calls }
+        ensures fails { is_err result ≡ fails_next self.old.plan }
+        ensures all { OnOk result (self.new.keeps_back ≡ false) }
+        ensures keeps_back { OnErr result (self.new.keeps_back ≡ self.old.keeps_back) }
         ensures stays { self.new.taken ≡ self.old.taken }
-        ensures calls { self.new.calls ≡ next_count self.old.calls }
-        ensures counts { self.old.faults ≤ self.new.faults }
-        ensures faults { self.new.faults ≡ faults_after result self.old.faults }
+        ensures plan { self.new.plan ≡ after_call (is_err result) self.old.plan }
         ensures room { self.new.room ≡ self.old.room }
         ensures piece { self.new.piece ≡ self.old.piece }
-        ensures plan { self.new.fails ≡ self.old.fails }
     {
-        self.plan.begin()
+        self.plan.begin()?;
+        self.unflushed = false;
+        Ok(())
     }
 }
 

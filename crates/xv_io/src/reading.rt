@@ -1,7 +1,8 @@
 //! An input as a whole.
 
-ghost use Rattle.std.specs.Prelude.{◌≡◌, ◌+◌, ◌<◌, ◌≤◌, length, take, vec_len, IfErr, IfOk, IfSome, OnOk, IsErrOf, OnErr};
-ghost use Rattle.xv_io.specs.Io.{CountRose, EndsAtZero, GaveAtLeast, IsAtEnd, Moves};
+ghost use Rattle.std.specs.Prelude.{◌≡◌, ◌+◌, ◌<◌, ◌≤◌, length, vec_len, IfErr, IfOk, IfSome, OnOk, IsErrOf, OnErr};
+ghost use Rattle.xv_base.specs.Calls.{CountRose};
+ghost use Rattle.xv_io.specs.Io.{EndsAtZero, GaveAtLeast, GaveAtMost, IsAtEnd, Moves};
 
 use crate::source::Source;
 use std::alloc::{AllocError, Global};
@@ -23,8 +24,8 @@ const PIECE: usize = 65536;
 /// All bytes to the end of input, of which there are at most `limit`. Ends on an endless source too, since it
 /// takes at most `limit + 1` bytes.
 ///
-/// Errors: `ReadFault` where a read failed, `TooLong` where no read failed and more than `limit` bytes are
-/// there.
+/// Errors: `ReadFault` exactly where a read failed, `TooLong` where more than `limit` bytes are there, `NoMemory`
+/// for want of memory.
 pub fn read_all<I: Source>(alloc: Global, source: &mut I, limit: u32) -> Result<Vec<u8>, ReadAll>
     ensures all { IfOk result (λ v. IfSome (I.left source.old) (λ xs. v.items ≡ xs)) }
     ensures ended { OnOk result (IsAtEnd (I.left source.new)) }
@@ -33,8 +34,8 @@ pub fn read_all<I: Source>(alloc: Global, source: &mut I, limit: u32) -> Result<
         → CountRose (I.faults source.old) (I.faults source.new) }
     ensures too_long { IsErrOf result ReadAll.TooLong
         → GaveAtLeast (limit + 1) (I.left source.old) (I.left source.new) }
-    ensures rest { GaveAtLeast 0 (I.left source.old) (I.left source.new) }
-    ensures counts { I.faults source.old ≤ I.faults source.new }
+    ensures quiet { ¬ IsErrOf result ReadAll.ReadFault → I.faults source.new ≡ I.faults source.old }
+    ensures most { GaveAtMost (limit + 1) (I.left source.old) (I.left source.new) }
 {
     let most = limit as usize + 1;
     let mut buffer = zeros(alloc, PIECE)?;
@@ -62,11 +63,11 @@ fn read_more<I: Source>(
     ensures moves { OnOk result
         (Moves (I.left source.old) (I.left source.new) bytes.old.items bytes.new.items) }
     ensures ends { IfOk result (λ n. EndsAtZero (I.left source.old) n) }
-    ensures rest { OnErr result (GaveAtLeast 0 (I.left source.old) (I.left source.new)) }
+    ensures most { OnErr result (GaveAtMost room (I.left source.old) (I.left source.new)) }
     ensures fault { IsErrOf result ReadAll.ReadFault
         → CountRose (I.faults source.old) (I.faults source.new) }
+    ensures quiet { ¬ IsErrOf result ReadAll.ReadFault → I.faults source.new ≡ I.faults source.old }
     ensures short { ¬ IsErrOf result ReadAll.TooLong }
-    ensures counts { I.faults source.old ≤ I.faults source.new }
 {
     let wanted = room.min(buffer.len());
     let Ok(n) = source.read(&mut buffer[..wanted]) else {

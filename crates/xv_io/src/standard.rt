@@ -1,14 +1,13 @@
 //! The trusted edge: a source and a sink over std's readers and writers.
 
-ghost use Rattle.std.specs.Prelude.{◌≡◌, ◌<◌, ◌≤◌, length, IfOk};
+ghost use Rattle.std.specs.Prelude.{◌≡◌, ◌<◌, ◌≤◌, true, false, length, IfOk, OnOk, OnErr};
 ghost use Rattle.std.specs.Io.KnownBytes.{Keeps, ReadConsumes, WriteAppends};
-ghost use Rattle.xv_io.specs.Io.{faults_after};
+ghost use Rattle.xv_base.specs.Calls.{next_count};
 
-use crate::count::one_more;
 use crate::sink::Sink;
 use crate::source::Source;
 use std::io::{Read, Write};
-use xv_base::Failed;
+use xv_base::{Failed, one_more};
 
 /// The input of a std reader. It does not tell its bytes.
 #[derive(Drop)]
@@ -37,8 +36,8 @@ impl<X: Read> Source for StdSource<X> {
     fn read(&mut self, into: &mut [u8]) -> Result<usize, Failed>
         ensures fits { IfOk result (λ n. n ≤ length into.old) }
         ensures gives { ReadConsumes (X.remaining self.old.reader) (X.remaining self.new.reader) result into.new }
-        ensures counts { self.old.faults ≤ self.new.faults }
-        ensures faults { self.new.faults ≡ faults_after result self.old.faults }
+        ensures failed { OnErr result (self.new.faults ≡ next_count self.old.faults) }
+        ensures quiet { OnOk result (self.new.faults ≡ self.old.faults) }
     {
         match self.reader.read(into) {
             Ok(n) => Ok(n),
@@ -50,19 +49,26 @@ impl<X: Read> Source for StdSource<X> {
     }
 }
 
-/// The output of a std writer. It does not tell its bytes.
+/// The output of a std writer. It does not tell its bytes. What the writer keeps back is not known, so it may be
+/// all that was written since the last flush that did not fail.
 #[derive(Drop)]
 pub struct StdSink<X> {
     writer: X,
     faults: u64,
+    unflushed: bool,
 }
 
 impl<X> StdSink<X> {
     pub fn new(writer: X) -> StdSink<X>
         ensures writer { result.writer ≡ writer }
         ensures faults { result.faults ≡ 0 }
+        ensures unflushed { result.unflushed ≡ true }
     {
-        StdSink { writer, faults: 0 }
+        StdSink {
+            writer,
+            faults: 0,
+            unflushed: true,
+        }
     }
 }
 
@@ -73,14 +79,18 @@ impl<X: Write> Sink for StdSink<X> {
 
     ghost faults = { λ s. s.faults };
 
+    ghost keeps_back = { λ s. s.unflushed };
+
     /// One write of std's. An error of it is a fault, and so is a write that takes nothing.
     fn write(&mut self, bytes: &[u8]) -> Result<usize, Failed>
         ensures some { IfOk result (λ n. 0 < n) }
         ensures fits { IfOk result (λ n. n ≤ length bytes.now) }
         ensures takes { WriteAppends (X.contents self.old.writer) (X.contents self.new.writer) result bytes.now }
-        ensures counts { self.old.faults ≤ self.new.faults }
-        ensures faults { self.new.faults ≡ faults_after result self.old.faults }
+        ensures keeps { self.new.unflushed ≡ true }
+        ensures failed { OnErr result (self.new.faults ≡ next_count self.old.faults) }
+        ensures quiet { OnOk result (self.new.faults ≡ self.old.faults) }
     {
+        self.unflushed = true;
         match self.writer.write(bytes) {
             Ok(n) if n > 0 => Ok(n),
             _ => {
@@ -93,11 +103,15 @@ impl<X: Write> Sink for StdSink<X> {
     /// One flush of std's. An error of it is a fault.
     fn flush(&mut self) -> Result<(), Failed>
         ensures stays { Keeps (X.contents self.old.writer) (X.contents self.new.writer) }
-        ensures counts { self.old.faults ≤ self.new.faults }
-        ensures faults { self.new.faults ≡ faults_after result self.old.faults }
+        ensures all { OnOk result (self.new.unflushed ≡ false) }
+        ensures failed { OnErr result (self.new.faults ≡ next_count self.old.faults) }
+        ensures quiet { OnOk result (self.new.faults ≡ self.old.faults) }
     {
         match self.writer.flush() {
-            Ok(()) => Ok(()),
+            Ok(()) => {
+                self.unflushed = false;
+                Ok(())
+            }
             Err(_) => {
                 self.faults = one_more(self.faults);
                 Err(Failed)

@@ -1,7 +1,8 @@
 //! A text as a whole.
 
-ghost use Rattle.std.specs.Prelude.{◌≤◌, length, OnOk, OnErr};
-ghost use Rattle.xv_io.specs.Io.{CountRose, TookFront, TookMore};
+ghost use Rattle.std.specs.Prelude.{◌≡◌, OnOk, OnErr};
+ghost use Rattle.xv_base.specs.Calls.{CountRose};
+ghost use Rattle.xv_io.specs.Io.{TookFront, TookMore};
 
 use crate::sink::Sink;
 
@@ -15,8 +16,8 @@ pub struct WriteFault;
 pub fn write_text<O: Sink>(sink: &mut O, text: &[u8]) -> Result<(), WriteFault>
     ensures whole { OnOk result (TookMore (O.taken sink.old) (O.taken sink.new) text.now) }
     ensures fault { OnErr result (CountRose (O.faults sink.old) (O.faults sink.new)) }
+    ensures quiet { OnOk result (O.faults sink.new ≡ O.faults sink.old) }
     ensures front { TookFront (O.taken sink.old) (O.taken sink.new) text.now }
-    ensures counts { O.faults sink.old ≤ O.faults sink.new }
 {
     let mut done = 0;
     while done < text.len() {

@@ -1,8 +1,8 @@
 -- Counts of messages in lists, groups and streams, and the bag of what is outstanding after each effect.
 use Rattle.std.specs.Prelude.{◌≡◌, ◌≢◌, ◌⊎◌, ◌≤◌, ◌<◌, ℕ, zero, suc, ◌+◌, Bool, true, false, List, [], ◌∷◌, ◌++◌, length, take, drop, set, remove, get_or, if◌then◌else◌}
 use Rattle.std.proofs.Common.{arith, refl, ap, inl, inr}
-use Rattle.std.proofs.lemmas.Bool.{and_parts, and_from, eqb-true, eq-eqb, ltb-true, cases_Bool, cases_eq, cases_lt}
-use Rattle.std.proofs.lemmas.List.{take-append-drop, get_or-set_same, get_or-set_other, length-set, length_push, get_or_past}
+use Rattle.std.proofs.lemmas.Bool.{and_parts, and_from, eqb-true, eq-eqb, ltb-true, cases_Bool, cases_lt}
+use Rattle.std.proofs.lemmas.List.{take-append-drop, get_or-set_other, length-set, length_push, get_or_past}
 use Rattle.xv_model.specs.Job.{Job}
 use Rattle.xv_model.specs.View.{View, Outbox, Hold, UnitHead, no_message, number, stream, front_group, ready, ready_message, is_ready, is_next, first_next}
 use Rattle.xv_model.specs.Effect.{made, made_run, sent, batch, delivered, applied_next}
@@ -88,22 +88,6 @@ issued-run-other box unit at (suc n) u h =
     let ne : u ≢ unit + n = elim h [ inl e ↦ omega arith | inr e ↦ omega arith ] in
     rw get_or-set_other (issued-run-other box unit at n u (elim h [ inl e ↦ inl e | inr e ↦ inr (omega arith) ]))
 
-issued-run-last : (box : Outbox) (unit at n : ℕ) → unit + n < length box.issued → number (made_run box unit at (suc n)).issued (unit + n) ≡ number box.issued (unit + n) + 1
-issued-run-last box unit at n h =
-    let lt : unit + n < length (made_run box unit at n).issued = omega (arith, length-issued-run box unit at n) in
-    let same : number (made_run box unit at n).issued (unit + n) ≡ number box.issued (unit + n) = issued-run-other box unit at n (unit + n) (inr (omega arith)) in
-    rw get_or-set_same (ap (λ (k : ℕ). k + 1) same)
-
-issued-run-later : (box : Outbox) (unit at n i : ℕ) → i ≢ n → number (made_run box unit at n).issued (unit + i) ≡ number box.issued (unit + i) + 1 → number (made_run box unit at (suc n)).issued (unit + i) ≡ number box.issued (unit + i) + 1
-issued-run-later box unit at n i ne e = let other : unit + i ≢ unit + n = omega arith in rw get_or-set_other e
-
-pub issued-run-at : (box : Outbox) (unit at n i : ℕ) → i < n → unit + n ≤ length box.issued → number (made_run box unit at n).issued (unit + i) ≡ number box.issued (unit + i) + 1
-issued-run-at box unit at zero i h k = absurd (omega arith)
-issued-run-at box unit at (suc n) i h k = elim (cases_eq i n) [
-  | inl e ↦ rw e (issued-run-last box unit at n (omega arith))
-  | inr e ↦ issued-run-later box unit at n i e (issued-run-at box unit at n i (omega arith) (omega arith))
-]
-
 -- two bags that count the same are one
 pub same_bag : (a b : Bag) → ((test : UnitHead → Bool) → a test ≡ b test) → a ≡ b
 same_bag a b e = λ i test. e test i
@@ -165,13 +149,7 @@ on_the_way-applied v e test = omega (arith, count-remove test v.hold.held (ready
 pub outstanding-applied : (v : View) → is_ready v.hold ≡ true → (test : UnitHead → Bool) → outstanding v test ≡ (if test (ready_message v.hold) then 1 else 0) + outstanding (applied_next v) test
 outstanding-applied v e test = omega (arith, on_the_way-applied v e test)
 
--- what is on the way is outstanding, and so is what is in the outbox; a test that passes more counts no less
-pub on_the_way-outstanding : (v : View) (test : UnitHead → Bool) → on_the_way v test ≤ outstanding v test
-on_the_way-outstanding v test = omega arith
-
-pub outbox-outstanding : (v : View) (test : UnitHead → Bool) → count test v.outbox.messages ≤ outstanding v test
-outbox-outstanding v test = omega arith
-
+-- a test that passes more counts no less
 pub on_the_way-le : (v : View) (test other : UnitHead → Bool) → ((m : UnitHead) → test m ≡ true → other m ≡ true) → on_the_way v test ≤ on_the_way v other
 on_the_way-le v test other h = let a = count_streams-le test other v.streams h in let b = count-le test other v.hold.held h in omega arith
 

@@ -113,13 +113,6 @@ members-set_true (false ∷ s) zero = omega arith
 members-set_true (true ∷ s) (suc page) = let h = members-set_true s page in omega arith
 members-set_true (false ∷ s) (suc page) = members-set_true s page
 
-pub members-set_true-new : (s : List Bool) (page : ℕ) → page < length s → member s page ≡ false → members (set s page true) ≡ members s + 1
-members-set_true-new [] page l e = absurd (omega arith)
-members-set_true-new (true ∷ s) zero l e = absurd (cc)
-members-set_true-new (false ∷ s) zero l e = omega arith
-members-set_true-new (true ∷ s) (suc page) l e = let h = members-set_true-new s page (omega arith) e in omega arith
-members-set_true-new (false ∷ s) (suc page) l e = members-set_true-new s page (omega arith) e
-
 pub member-set_same : (s : List Bool) (page : ℕ) (b : Bool) → page < length s → member (set s page b) page ≡ b
 member-set_same [] page b l = absurd (omega arith)
 member-set_same (c ∷ s) zero b l = refl

@@ -77,17 +77,6 @@ content-push_before job h e unit (suc n) l =
     ∙ ap (λ op. written (wrote job h unit n) op (content job (push h e) unit n)) (operation_at-push_before job h e n l)
     ∙ ap (written (wrote job h unit n) (operation_at job h n)) (content-push_before job h e unit n (omega arith))
 
-pub content-suc : (job : Job) (h : List Ended) (unit n : ℕ) → content job h unit (n + 1) ≡ written (wrote job h unit n) (operation_at job h n) (content job h unit n)
-content-suc job h unit n = ap (content job h unit) (add-one n)
-
-pub content-push_at : (job : Job) (h : List Ended) (e : Ended) (unit : ℕ) →
-    content job (push h e) unit (length h + 1) ≡ written (is_done e.outcome && writes_to (operation job e.guest.0 (ended h e.guest.0)) unit) (operation job e.guest.0 (ended h e.guest.0)) (content job h unit (length h))
-content-push_at job h e unit =
-    content-suc job (push h e) unit (length h)
-    ∙ ap (λ b. written b (operation_at job (push h e) (length h)) (content job (push h e) unit (length h))) (wrote-push_at job h e unit)
-    ∙ ap (λ op. written (is_done e.outcome && writes_to (operation job e.guest.0 (ended h e.guest.0)) unit) op (content job (push h e) unit (length h))) (operation_at-push_at job h e)
-    ∙ ap (written (is_done e.outcome && writes_to (operation job e.guest.0 (ended h e.guest.0)) unit) (operation job e.guest.0 (ended h e.guest.0))) (content-push_before job h e unit (length h) (omega arith))
-
 -- what an entry reads, from its outcome, its operation and the contents before it
 abbrev pub bytes_read : Bool → UnitOp → (ℕ → List ℕ) → List ℕ
 bytes_read done op contents = if done && is_none op.write then part op (contents op.unit.0) else []

@@ -59,11 +59,6 @@ disk_in s u p l = (numbered s).disk_in u (block_above s u p) l
 pub block_in : (s : Shape) (u : ℕ) → is_page s u ≡ false → u < units s → block_of s u < blocks s.disks (disk_of s u)
 block_in s u p l = (numbered s).block_in u (block_above s u p) l
 
--- two units of one disk's block are one
-pub same_unit : (s : Shape) (u w : ℕ) → is_page s u ≡ false → u < units s → is_page s w ≡ false → w < units s → disk_of s u ≡ disk_of s w → block_of s u ≡ block_of s w → u ≡ w
-same_unit s u w p l q m e f =
-    sym (unit_back s u p l) ∙ ap (λ d. unit_of_block s d (block_of s u)) e ∙ ap (unit_of_block s (disk_of s w)) f ∙ unit_back s w q m
-
 -- the cursor of a unit's disk
 abbrev pub cursor_of : Shape → List Disk → ℕ → ℕ
 cursor_of s ds u = (get_or ds (disk_of s u) no_disk).cursor
@@ -137,12 +132,6 @@ cursor_of-set_le s ds d new u l le = elim (cases_eq (disk_of s u) d) [
       omega arith
   | inr n ↦ let now = cursor_of-set_other s ds d new u n in omega arith
 ]
-
-pub behind_stays : (s : Shape) (ds : List Disk) (d : ℕ) (new : Disk) (u : ℕ) → d < length ds → (get_or ds d no_disk).cursor ≤ new.cursor → is_behind_block s ds u ≡ true → is_behind_block s (set ds d new) u ≡ true
-behind_stays s ds d new u l le h =
-    let b = behind_block s ds u h in
-    let more = cursor_of-set_le s ds d new u l le in
-    behind_block_from s (set ds d new) u (record { in_range = b.in_range; no_page = b.no_page; behind = omega arith })
 
 -- what comes to lie behind are the blocks from the old cursor on
 pub record CameBehind (s : Shape) (ds : List Disk) (d : ℕ) (new : Disk) (u : ℕ) : Type 0 where

@@ -1,9 +1,9 @@
 -- The contents of a migration beside its view: one for each unit on both sides, for each message, and for each block
 -- read; what each event does to them; and the content invariant.
 use Rattle.std.specs.Prelude.{◌≡◌, ◌<◌, ℕ, ◌+◌, ◌||◌, Bool, true, false, List, [], ◌∷◌, ◌++◌, length, map, replicate, take, drop, set, remove, get_or, unwrap_or, is_none, Option, Some, None, if◌then◌else◌}
-use Rattle.std.specs.List.{range_with_len}
+use Rattle.xv_base.specs.Initial.{first_contents as first_units}
 use Rattle.xv_model.specs.Job.{Job, UnitOp, unit_count}
-use Rattle.xv_model.specs.Guest.{Ended, initial, content, reads, overlaid, part}
+use Rattle.xv_model.specs.Guest.{Ended, content, reads, overlaid, part}
 use Rattle.xv_model.specs.View.{View, UnitHead, number, least, disk, front, ready, ready_message, is_running, is_switched}
 use Rattle.xv_model.specs.Wait.{Event, Why, wait, next_operation, next_aim, is_join, is_mirror}
 use Rattle.xv_model.specs.Effect.{batch, cursor_unit}
@@ -22,7 +22,7 @@ pub record Contents : Type 0 where
 
 -- the first contents: the guest's on the source, any of the same number on the destination
 abbrev pub first_source : Job → List (List ℕ)
-first_source job = map (initial job) (range_with_len 0 (unit_count job))
+first_source job = first_units job.shape job.init
 
 abbrev pub first_contents : Job → List (List ℕ) → Contents
 first_contents job dest = record {

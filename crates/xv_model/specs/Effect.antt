@@ -3,6 +3,7 @@ use Rattle.std.specs.Prelude.{ℕ, zero, suc, ◌+◌, ◌-◌, ◌==◌, ◌&&�
 use Rattle.xv_model.specs.Job.{Job, UnitOp, unit_of_block, disk_of, blocks}
 use Rattle.xv_model.specs.View.{View, Disk, Outbox, UnitHead, Phase, disk, front, number, member, members, least, is_running, is_live, stream, front_group, no_message, ready, ready_message}
 use Rattle.xv_model.specs.Wait.{Event, Aim, next_operation, next_aim, is_store, is_join, is_mirror}
+use Rattle.xv_base.specs.declared.limits.TheConstants.{SINGLE_FORMAT}
 use Rattle.xv_base.specs.declared.event.Phase.TheVariants.{Stunned, Switched, Cancelled, Failed}
 use Rattle.xv_base.specs.declared.event.Event.TheVariants.{Guest, Begin, Read, Advance, Release, Round, Page, Send, Deliver, Apply, Ack, Credit, Stun, Switch, Cancel}
 pub use Rattle.xv_base.specs.declared.operation.Outcome.{Outcome}
@@ -99,7 +100,7 @@ page_sent_off v = record v {
 
 -- how many messages go at once: one in job format 1, and a group in job format 2
 abbrev pub batch : Job → View → ℕ
-batch job v = if job.format == 1 then 1 else min job.group (min (length v.outbox.messages) v.credit)
+batch job v = if job.format == SINGLE_FORMAT then 1 else min job.group (min (length v.outbox.messages) v.credit)
 
 abbrev pub sent : Job → View → ℕ → View
 sent job v s = record v {
@@ -189,7 +190,7 @@ guest_answer op a = if is_join a then Queued else note (if is_some op.write then
 -- one message is told by its unit and version, a group by its length and its first unit
 abbrev pub group_note : Job → List UnitHead → Turn
 group_note job group =
-    if job.format == 1
+    if job.format == SINGLE_FORMAT
     then note (get_or group 0 no_message).unit.0 (get_or group 0 no_message).version
     else note (length group) (get_or group 0 no_message).unit.0
 

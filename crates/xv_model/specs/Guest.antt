@@ -1,6 +1,7 @@
 -- The unmigrated guest: its history, and what each unit holds and each read gives after a beginning of it.
-use Rattle.std.specs.Prelude.{ℕ, zero, suc, ◌+◌, ◌==◌, ◌&&◌, Bool, true, false, is_some, is_none, if◌then◌else◌, List, [], ◌∷◌, ◌++◌, take, drop, replicate, get_or, Some, None, Option, count_by}
-use Rattle.xv_model.specs.Job.{Job, UnitOp, Init, size, repeated, operation}
+use Rattle.std.specs.Prelude.{ℕ, zero, suc, ◌+◌, ◌==◌, ◌&&◌, Bool, true, false, is_some, is_none, if◌then◌else◌, List, [], ◌++◌, take, drop, get_or, Some, None, Option, count_by}
+use Rattle.xv_model.specs.Job.{Job, UnitOp, size, repeated, operation}
+use Rattle.xv_base.specs.Initial.{first_content}
 pub use Rattle.xv_base.specs.declared.operation.Ended.{Ended}
 use Rattle.xv_base.specs.declared.operation.Outcome.{Outcome}
 use Rattle.xv_base.specs.declared.operation.Outcome.TheVariants.{Done, Faulted}
@@ -47,13 +48,9 @@ abbrev pub written : Bool → UnitOp → List ℕ → List ℕ
 written false op content = content
 written true op content = overlaid op.write op.offset op.len content
 
--- a unit's first content: zeros, or the pattern of its first `init` line
-abbrev pub initial_by : List Init → ℕ → ℕ → List ℕ
-initial_by [] bytes unit = replicate bytes 0
-initial_by (i ∷ is) bytes unit = if i.unit.0 == unit then repeated i.pattern bytes else initial_by is bytes unit
-
+-- a unit's first content
 abbrev pub initial : Job → ℕ → List ℕ
-initial job unit = initial_by job.init (size job.shape unit) unit
+initial job unit = first_content job.init (size job.shape unit) unit
 
 -- the unmigrated guest's content of a unit after the first n entries
 abbrev pub content : Job → List Ended → ℕ → ℕ → List ℕ

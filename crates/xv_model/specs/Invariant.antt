@@ -1,5 +1,6 @@
 -- The view invariant: twelve points that every view of every run meets, and a thirteenth on what the lists hold.
 use Rattle.std.specs.Prelude.{◌≡◌, ◌≤◌, ◌<◌, ℕ, ◌+◌, ◌-◌, max, ◌==◌, ◌&&◌, ◌||◌, not, nat_lt, Bool, true, false, List, [], ◌∷◌, length, sum, Option, Some, None, get_or, if◌then◌else◌}
+use Rattle.xv_base.specs.declared.limits.TheConstants.{SINGLE_FORMAT, GROUP_FORMAT}
 use Rattle.xv_model.specs.Job.{Job, Shape, UnitOp, units, unit_count, is_page, disk_of, block_of, blocks, trace}
 use Rattle.xv_model.specs.Guest.{Ended, ended, wrote, writes, writes_to}
 use Rattle.xv_model.specs.View.{View, Disk, UnitHead, Waiting, Phase, no_disk, number, member, members, is_running, is_live, is_switched, is_stunned, is_behind, all_copied, queues_empty, is_empty_set, no_message, no_waiting}
@@ -91,8 +92,8 @@ pub record RoundsCount (pages format limit length_of_history : ℕ) (phase : Pha
   pub apart : (page : ℕ) → member dirty page ≡ true → member to_send page ≡ false
   pub sendings : (page : ℕ) → page < pages → number issued page + (if member to_send page then 1 else 0) ≤ rounds + (if is_running phase then 0 else 1)
   pub limited : format ≡ 1 → rounds ≤ limit
-  pub beside : format ≡ 2 → copied ≡ false → rounds + members dirty ≤ pages + length_of_history
-  pub limited_beside : format ≡ 2 → rounds ≤ max limit (pages + length_of_history)
+  pub beside : format ≡ GROUP_FORMAT → copied ≡ false → rounds + members dirty ≤ pages + length_of_history
+  pub limited_beside : format ≡ GROUP_FORMAT → rounds ≤ max limit (pages + length_of_history)
 
 -- 9. A guest waits in at most one queue, once, for its next write, and while the guest runs not for a block ahead.
 abbrev pub waits_in : List Waiting → ℕ → ℕ
@@ -139,7 +140,7 @@ pub record CancelHolds (cancel : Option ℕ) (phase : Phase) (n : ℕ) : Type 0 
 
 -- 13. Every list has its length; a stream's groups are as the job's format has them; the first `at` is at most the mark.
 abbrev pub is_good_group : Job → List UnitHead → Bool
-is_good_group job group = if job.format == 1 then length group == 1 else (nat_lt 0 (length group) && not (nat_lt job.group (length group)))
+is_good_group job group = if job.format == SINGLE_FORMAT then length group == 1 else (nat_lt 0 (length group) && not (nat_lt job.group (length group)))
 
 abbrev pub are_good_groups : Job → List (List UnitHead) → Bool
 are_good_groups job [] = true

@@ -1,11 +1,14 @@
 -- What a migration is asked to do: the machine, its limits, the calls that are to fail, the first contents, and
 -- what each guest does.
-use Rattle.std.specs.Prelude.{◌≡◌, ◌≤◌, ◌<◌, ◌⊎◌, ℕ, ◌+◌, ◌&&◌, nat_lt, Bool, true, false, List, [], length, None, is_some, IfSome, get_or, sum_by}
+use Rattle.std.specs.Prelude.{◌≡◌, ◌≤◌, ◌<◌, ◌⊎◌, ℕ, ◌&&◌, nat_lt, Bool, true, List, [], length, None, IfSome, get_or, sum_by}
 use Rattle.std.specs.List.{list_all}
+use Rattle.xv_base.specs.declared.limits.TheConstants.{SINGLE_FORMAT, GROUP_FORMAT, MOST_GROUP, MOST_STREAMS, MOST_CREDIT, MOST_OUTBOX, MOST_REGION, MOST_ROUNDS, MOST_DIRTY, MOST_GUESTS, MOST_OPERATIONS, MOST_FAULTS}
 use Rattle.xv_base.specs.declared.limits.Fault.TheVariants.{SourceRead, SourceWrite, DestRead, DestWrite, Flush, Put, Take, AckPut, AckTake}
 pub use Rattle.xv_base.specs.Units.{Shape, units, size, is_page, disk_of, block_of, unit_of_block, blocks}
 pub use Rattle.xv_base.specs.Layout.{IsGood}
 pub use Rattle.xv_base.specs.Pattern.{repeated}
+pub use Rattle.xv_base.specs.Initial.{no_init}
+pub use Rattle.xv_base.specs.Legal.{IsLegal}
 pub use Rattle.xv_base.specs.declared.unit.UnitId.{UnitId}
 pub use Rattle.xv_base.specs.declared.unit.GuestId.{GuestId}
 pub use Rattle.xv_base.specs.declared.pattern.UnitOp.{UnitOp}
@@ -44,10 +47,6 @@ no_operation = record { unit = record { 0 = 0 }; offset = 0; len = 0; write = No
 abbrev pub operation : Job → ℕ → ℕ → UnitOp
 operation job guest k = get_or (trace job guest) k no_operation
 
--- what stands for an initial content that is not there
-abbrev pub no_init : Init
-no_init = record { unit = record { 0 = 0 }; pattern = [] }
-
 -- a planned fault has a number from 1, and a stream of the job
 abbrev pub is_good_fault : ℕ → Fault → Bool
 is_good_fault streams (SourceRead k) = nat_lt 0 k
@@ -60,31 +59,22 @@ is_good_fault streams (Take s k) = nat_lt 0 k && nat_lt s streams
 is_good_fault streams (AckPut k) = nat_lt 0 k
 is_good_fault streams (AckTake k) = nat_lt 0 k
 
--- where an operation may act: a part of one unit, a write of a block being of the whole block, and a read of at most
--- 64 bytes
-pub record IsLegal (shape : Shape) (op : UnitOp) : Type 0 where
-  pub unit_is : op.unit.0 < units shape
-  pub some_bytes : 0 < op.len
-  pub in_unit : op.offset + op.len ≤ size shape op.unit.0
-  pub whole_block : is_some op.write ≡ true → is_page shape op.unit.0 ≡ false → (op.offset ≡ 0) × (op.len ≡ size shape op.unit.0)
-  pub short_read : is_some op.write ≡ false → op.len ≤ 64
-
 -- the limits of every job
 pub record IsGoodJob (job : Job) : Type 0 where
   pub machine : IsGood job.shape
   pub some_blocks : (d : ℕ) → d < length job.shape.disks → 1 ≤ blocks job.shape.disks d
-  pub formats : ((job.format ≡ 1) × (job.group ≡ 1)) ⊎ ((job.format ≡ 2) × (1 ≤ job.group) × (job.group ≤ 16))
-  pub streams : (1 ≤ job.config.streams) × (job.config.streams ≤ 8)
-  pub credit : (1 ≤ job.config.credit) × (job.config.credit ≤ 1024)
-  pub outbox : (1 ≤ job.config.outbox) × (job.config.outbox ≤ 1024)
-  pub region : (1 ≤ job.config.region) × (job.config.region ≤ 256) × (job.config.region ≤ job.config.outbox)
-  pub rounds : (1 ≤ job.config.rounds) × (job.config.rounds ≤ 64)
-  pub dirty : job.config.dirty ≤ 1048576
+  pub formats : ((job.format ≡ SINGLE_FORMAT) × (job.group ≡ 1)) ⊎ ((job.format ≡ GROUP_FORMAT) × (1 ≤ job.group) × (job.group ≤ MOST_GROUP))
+  pub streams : (1 ≤ job.config.streams) × (job.config.streams ≤ MOST_STREAMS)
+  pub credit : (1 ≤ job.config.credit) × (job.config.credit ≤ MOST_CREDIT)
+  pub outbox : (1 ≤ job.config.outbox) × (job.config.outbox ≤ MOST_OUTBOX)
+  pub region : (1 ≤ job.config.region) × (job.config.region ≤ MOST_REGION) × (job.config.region ≤ job.config.outbox)
+  pub rounds : (1 ≤ job.config.rounds) × (job.config.rounds ≤ MOST_ROUNDS)
+  pub dirty : job.config.dirty ≤ MOST_DIRTY
   pub cancel : IfSome job.config.cancel (λ k. k ≤ operation_count job)
-  pub guests : (1 ≤ guest_count job) × (guest_count job ≤ 16)
-  pub operations : operation_count job ≤ 1048576
+  pub guests : (1 ≤ guest_count job) × (guest_count job ≤ MOST_GUESTS)
+  pub operations : operation_count job ≤ MOST_OPERATIONS
   pub legal : (guest k : ℕ) → k < length (trace job guest) → IsLegal job.shape (operation job guest k)
   pub init_units : (i : ℕ) → i < length job.init → (get_or job.init i no_init).unit.0 < unit_count job
   pub init_rises : (i j : ℕ) → i < j → j < length job.init → (get_or job.init i no_init).unit.0 < (get_or job.init j no_init).unit.0
-  pub fault_lines : length job.faults ≤ 32
+  pub fault_lines : length job.faults ≤ MOST_FAULTS
   pub fault_numbers : list_all (is_good_fault job.config.streams) job.faults ≡ true

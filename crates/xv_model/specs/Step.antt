@@ -102,6 +102,14 @@ is_wait Faulted = false
 is_wait (Wait why) = true
 is_wait (Failed cause) = false
 
+-- whether an answer tells of a call on the outside
+abbrev pub went_out : Turn → Bool
+went_out (Done n) = true
+went_out Queued = false
+went_out Faulted = true
+went_out (Wait why) = false
+went_out (Failed cause) = true
+
 -- the view after a journal, each entry's call failing where its answer says so
 abbrev pub after : Job → View → List Entry → View
 after job v [] = v

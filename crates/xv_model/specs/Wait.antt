@@ -4,6 +4,7 @@ use Rattle.xv_model.specs.Job.{Job, UnitOp, is_page, disk_of, block_of, blocks, 
 use Rattle.xv_model.specs.Guest.{ended}
 use Rattle.xv_model.specs.View.{View, disk, front, is_running, is_stunned, is_live, is_behind, is_inside, is_copied, all_copied, queues_empty, in_queue, is_empty, is_empty_set, members, stream, is_ready}
 pub use Rattle.xv_base.specs.declared.event.Event.{Event}
+use Rattle.xv_base.specs.declared.limits.TheConstants.{GROUP_FORMAT}
 use Rattle.xv_base.specs.declared.event.Event.TheVariants.{Guest, Begin, Read, Advance, Release, Round, Page, Send, Deliver, Apply, Ack, Credit, Stun, Switch, Cancel}
 pub use Rattle.xv_base.specs.declared.answer.Why.{Why}
 use Rattle.xv_base.specs.declared.answer.Why.TheVariants.{TraceEnd, InQueue, CancelDue, Stunned, Throttled, NoCredit, NothingThere, NotNow}
@@ -83,7 +84,7 @@ may_begin_round job v =
     is_empty_set v.to_send
     && (if all_copied job v
     then nat_lt v.rounds job.config.rounds
-    else ((job.format == 2) && not (is_empty_set v.dirty)))
+    else ((job.format == GROUP_FORMAT) && not (is_empty_set v.dirty)))
 
 -- whether the guest may be stunned
 abbrev pub may_stun : Job → View → Bool

@@ -1,5 +1,6 @@
 -- The end of a run: when it is finished, how long its journal may be, and how much work is left.
 use Rattle.std.specs.Prelude.{ℕ, ◌+◌, ◌-◌, ◌*◌, ◌==◌, ◌&&◌, nat_le, not, Bool, true, List, [], ◌∷◌, length, map, if◌then◌else◌}
+use Rattle.xv_base.specs.declared.limits.TheConstants.{SINGLE_FORMAT}
 use Rattle.xv_model.specs.Job.{Job, UnitOp, unit_count, operation_count}
 use Rattle.xv_model.specs.Guest.{Ended, ended}
 use Rattle.xv_model.specs.View.{View, Disk, members, is_running, is_stunned, is_live, queues_empty}
@@ -34,10 +35,10 @@ copies_left (n ∷ ns) (d ∷ ds) = copy_left n d + copies_left ns ds
 
 -- what an operation to come and a dirty page weigh, in each job format
 abbrev pub operation_weight : ℕ → ℕ
-operation_weight format = if format == 1 then 7 else 8
+operation_weight format = if format == SINGLE_FORMAT then 7 else 8
 
 abbrev pub dirty_weight : ℕ → ℕ
-dirty_weight format = if format == 1 then 6 else 7
+dirty_weight format = if format == SINGLE_FORMAT then 6 else 7
 
 -- the work left: in operations, in the copies of the disks, in pages and messages, and in the ends of the phases
 abbrev pub operations_left : Job → View → ℕ

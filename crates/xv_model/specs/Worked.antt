@@ -19,7 +19,7 @@ pub mod Groups
 pub mod RoundsBesideThePass
 pub mod RoundsPastTheLimit
 use Rattle.std.specs.Prelude.{ℕ, List, Option, length, take}
-use Rattle.xv_model.specs.Job.{Job, UnitOp, UnitId, GuestId}
+use Rattle.xv_model.specs.Job.{Job, UnitOp}
 use Rattle.xv_model.specs.View.{View}
 use Rattle.xv_model.specs.Wait.{Event}
 use Rattle.xv_model.specs.Effect.{Turn}

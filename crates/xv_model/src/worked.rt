@@ -4,7 +4,7 @@ ghost use Rattle.std.specs.Prelude.{◌≡◌, [], ◌∷◌};
 ghost use Rattle.xv_model.specs.Step.{turns};
 ghost use Rattle.xv_model.specs.Report.{source_content, dest_content};
 ghost use Rattle.xv_model.specs.Worked.{totals_after, probe_after, view_after};
-ghost use Rattle.xv_base.specs.declared.event.Side.TheVariants.{Ahead, Inside, Behind, Dirty, Waiting, Clean};
+ghost use Rattle.xv_base.specs.declared.event.Side.TheVariants.{Ahead, Behind, Dirty, Waiting, Clean};
 ghost use Rattle.xv_model.specs.Worked.FirstPath.{first_path_job, first_path_events, first_path_turns, first_path_totals};
 ghost use Rattle.xv_model.specs.Worked.WriteAhead.{write_ahead_job, write_ahead_events, write_ahead_turns, write_ahead_totals};
 ghost use Rattle.xv_model.specs.Worked.WriteBehind.{write_behind_job, write_behind_events, write_behind_turns, write_behind_totals};

@@ -1,6 +1,6 @@
 -- A message more is laid into a slot of its own, and the others stay as they lie.
 use Rattle.std.proofs.Common.{◌≡◌, ◌≢◌, ℕ, ◌+◌, ◌-◌, ◌<◌, ◌≤◌, ◌==◌, ◌⊎◌, cond, List, [], ◌∷◌, ◌++◌, length, set, take, drop, map, sym, refl, ap, ◌∙◌, arith, inl, inr, ⊎_elim, eq-eqb, ne_eqb}
-use Rattle.std.proofs.lemmas.List.{map-append, same_lists, get_or-map, length-map, length_push, take_at, get_or_push, get_or_append_left, get_or-set_same, get_or-set_other, length-set}
+use Rattle.std.proofs.lemmas.List.{map-append, same_lists, get_or-map, length-map, length_push, take_at, get_or_push, get_or_append_left, get_or-set_same, get_or-set_other, length-set, get_or-drop, length-drop}
 use Rattle.std.proofs.lemmas.Bool.{cases_lt, cases_eq}
 use Rattle.xv_base.specs.Units.{Shape, units, size}
 use Rattle.xv_base.proofs.Partition.{has_greatest_size}
@@ -83,6 +83,24 @@ laid-made s limit queue capacity row next issued h room q at in' bytes unit vers
           rw (new-entry queue q i last, back, at) (itself limit next there))
           (last-or-old queue q i l);
     }
+
+pub laid-taken : (s : Shape) (limit : ℕ) (queue : List Queued) (capacity : ℕ) (row : Row) (next : ℕ) (issued : List ℕ)
+    → IsLaid s limit queue capacity row next issued → 0 < length queue → IsLaid s limit (drop 1 queue) capacity row next issued
+laid-taken s limit queue capacity row next issued h some = record {
+  good = h.good;
+  small = h.small;
+  reserved = h.reserved;
+  within = omega (arith, length-drop 1 queue);
+  slots = h.slots;
+  width = h.width;
+  per_unit = h.per_unit;
+  next_in = h.next_in;
+  units_in = λ i l. rw (get_or-drop 1 queue i no_entry) (h.units_in (1 + i) (omega (arith, length-drop 1 queue)));
+  slots_in = λ i l. rw (get_or-drop 1 queue i no_entry) (h.slots_in (1 + i) (omega (arith, length-drop 1 queue)));
+  in_turn = λ i l.
+      let back : length (drop 1 queue) - i ≡ length queue - (1 + i) = omega (arith, length-drop 1 queue) in
+      rw (get_or-drop 1 queue i no_entry, back) (h.in_turn (1 + i) (omega (arith, length-drop 1 queue)));
+}
 
 -- what was laid into the next slot, and what lies in the others
 own-content : (row : Row) (next : ℕ) (bytes : List ℕ) → next < length row.slots → take (length bytes) (content (put row next bytes) next) ≡ bytes

@@ -2,11 +2,7 @@
 use Rattle.std.specs.Prelude.{ℕ, ◌+◌, ◌-◌, ◌==◌, List, [], ◌∷◌, ◌++◌, length, map, drop, set, replicate, get_or, count_by}
 use Rattle.xv_base.specs.Units.{Shape, units}
 pub use Rattle.xv_base.specs.declared.operation.UnitHead.{UnitHead}
-
--- a message: its unit, version and `at`, and its content
-pub record Message : Type 0 where
-  pub head : UnitHead
-  pub content : List ℕ
+pub use Rattle.xv_base.specs.Message.{Message, no_head, no_message}
 
 -- the units, how many messages there may be, those made and not sent, in order, and for each unit the versions made
 pub record Outbox : Type 0 where
@@ -23,12 +19,6 @@ abbrev pub contents : List Message → List (List ℕ)
 contents messages = map (λ m. m.content) messages
 
 -- the message at a place from the front, with something in the place of what is not there
-abbrev pub no_head : UnitHead
-no_head = record { unit = record { 0 = 0 }; version = 0; at = 0 }
-
-abbrev pub no_message : Message
-no_message = record { head = no_head; content = [] }
-
 abbrev pub message : Outbox → ℕ → Message
 message o i = get_or o.messages i no_message
 

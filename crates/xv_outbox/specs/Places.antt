@@ -1,5 +1,5 @@
 -- How the messages of an outbox lie: a queue of heads, each with the slot of its content, round a row of slots.
-use Rattle.std.specs.Prelude.{◌≡◌, ◌<◌, ◌≤◌, ℕ, ◌+◌, ◌-◌, ◌^◌, ◌⊎◌, List, length, map, take, get_or}
+use Rattle.std.specs.Prelude.{◌≡◌, ◌<◌, ◌≤◌, ℕ, ◌+◌, ◌-◌, ◌^◌, ◌⊎◌, ◌==◌, List, length, map, take, get_or, count_by}
 use Rattle.xv_base.specs.Units.{Shape, units, size, max_size}
 use Rattle.xv_base.specs.Layout.{IsGood}
 use Rattle.xv_slots.specs.Row.{Row, content}
@@ -36,3 +36,8 @@ pub record IsLaid (s : Shape) (limit : ℕ) (queue : List Queued) (capacity : �
   pub units_in : (i : ℕ) → i < length queue → (entry queue i).head.unit.0 < units s
   pub slots_in : (i : ℕ) → i < length queue → (entry queue i).slot < limit
   pub in_turn : (i : ℕ) → i < length queue → IsBefore limit next (length queue - i) (entry queue i).slot
+
+-- and for each unit how many of its messages are in the queue
+pub record IsCounted (s : Shape) (queue : List Queued) (counts : List ℕ) : Type 0 where
+  pub each : length counts ≡ units s
+  pub counted : (u : ℕ) → get_or counts u 0 ≡ count_by (λ q. q.head.unit.0 == u) queue

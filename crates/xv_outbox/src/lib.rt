@@ -11,3 +11,4 @@ mod outbox;
 mod tests;
 
 pub use outbox::Outbox;
+pub use xv_base::UnitHead;

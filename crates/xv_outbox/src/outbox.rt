@@ -30,6 +30,8 @@ pub struct Outbox {
     /// The slot of the next message's content.
     next: u32,
     issued: Vec<u32>,
+    /// How many messages of each unit there are.
+    counts: Vec<u32>,
 }
 
 impl Model for Outbox {
@@ -37,7 +39,7 @@ impl Model for Outbox {
 
     ghost Value = { Outbox };
 
-    ghost use Rattle.xv_outbox.specs.Places.{messages_of, IsLaid};
+    ghost use Rattle.xv_outbox.specs.Places.{messages_of, IsLaid, IsCounted};
 
     ghost view = { λ o. record {
       shape = o.layout;
@@ -46,7 +48,7 @@ impl Model for Outbox {
       issued = o.issued.items;
     } };
 
-    ghost invariant = { λ o. IsLaid o.layout o.limit o.queue.items o.queue.capacity o.contents o.next o.issued.items };
+    ghost invariant = { λ o. IsLaid o.layout o.limit o.queue.items o.queue.capacity o.contents o.next o.issued.items × IsCounted o.layout o.queue.items o.counts.items };
 }
 
 impl Outbox {
@@ -60,6 +62,9 @@ impl Outbox {
         let Ok(issued) = Vec::from_elem(alloc, 0, layout.units() as usize) else {
             return Err(NoMemory);
         };
+        let Ok(counts) = Vec::from_elem(alloc, 0, layout.units() as usize) else {
+            return Err(NoMemory);
+        };
         let contents = Slots::new(alloc, limit, layout.max_size())?;
         Ok(Outbox {
             layout: *layout,
@@ -68,6 +73,7 @@ impl Outbox {
             contents,
             next: 0,
             issued,
+            counts,
         })
     }
 
@@ -101,6 +107,7 @@ impl Outbox {
             Err(_) => unreachable!(),
         }
         self.issued[unit.0 as usize] = version;
+        self.counts[unit.0 as usize] += 1;
         self.next = following(slot, self.limit);
         version
     }
@@ -129,7 +136,10 @@ impl Outbox {
         requires { 0 < length self.old.messages }
         ensures { self.new ≡ taken self.old }
     {
-        let _ = self.queue.pop_front();
+        let Some(queued) = self.queue.pop_front() else {
+            unreachable!()
+        };
+        self.counts[queued.head.unit.0 as usize] -= 1;
     }
 
     /// The message at this place from the front.
@@ -159,14 +169,14 @@ impl Outbox {
         self.issued[unit.0 as usize]
     }
 
-    /// How many messages of a unit there are; they are looked for among all.
+    /// How many messages of a unit there are.
     pub fn count(&self, unit: UnitId) -> u32
         ensures { result ≡ count self.now unit.0 }
     {
-        self.queue
-            .iter()
-            .filter(|queued| queued.head.unit.0 == unit.0)
-            .count() as u32
+        match self.counts.get(unit.0 as usize) {
+            Some(count) => *count,
+            None => 0,
+        }
     }
 }
 

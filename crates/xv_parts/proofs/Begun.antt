@@ -3,7 +3,7 @@ use Rattle.std.specs.Prelude.{◌≡◌, ◌<◌, ℕ, ◌+◌, List, [], ◌∷
 use Rattle.std.specs.List.{range_with_len}
 use Rattle.std.proofs.Common.{refl, sym, ap, subst, ◌∙◌, arith}
 use Rattle.std.proofs.lemmas.List.FromFn.{get_or-map-range_with_len, length-map-range_with_len, map-range_with_len_more}
-use Rattle.xv_device.specs.Memory.{Device, fresh as fresh_device, told as told_device}
+use Rattle.xv_device.specs.Memory.{Device, fresh as fresh_device, told as told_device, faults as device_faults}
 use Rattle.xv_wire.specs.Memory.{Pipe, told as told_pipe}
 use Rattle.xv_job.specs.Written.{Written, job_of}
 use Rattle.xv_core.specs.Seen.{OnDevice, OnWire}
@@ -43,13 +43,13 @@ seen-each w [] = refl
 seen-each w (n ∷ ns) = ap (λ (ws : List OnWire). stream_begun w n ∷ ws) (seen-each w ns)
 
 abbrev seen_device : Device → OnDevice
-seen_device d = record { told = told_device d; faults = d.faults }
+seen_device d = record { told = told_device d; faults = device_faults d }
 
 -- all parts of the migration
 pub begun-is : (w : Written) (source dest : Device) (wires : List Pipe) (back : Pipe) →
     source ≡ fresh_device w.shape w.init (source_plan w.faults) → dest ≡ fresh_device w.shape [] (dest_plan w.faults) →
     wires ≡ map (stream_pipe w) (range_with_len 0 w.config.streams) → back ≡ pipe_begun (back_room (job_of w)) (back_plan w.faults) →
-    begun w (record { told = told_device source; faults = source.faults }) (record { told = told_device dest; faults = dest.faults }) (map (λ p. fresh_wire (told_pipe p) p.faults) wires) (fresh_wire (told_pipe back) back.faults) ≡ begun_in_memory w
+    begun w (record { told = told_device source; faults = device_faults source }) (record { told = told_device dest; faults = device_faults dest }) (map (λ p. fresh_wire (told_pipe p) p.faults) wires) (fresh_wire (told_pipe back) back.faults) ≡ begun_in_memory w
 begun-is w source dest wires back s d ws b =
     let streams = range_with_len 0 w.config.streams in
     let at_source : OnDevice = device_begun w w.init (source_plan w.faults) in

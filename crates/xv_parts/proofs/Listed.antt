@@ -6,7 +6,7 @@ use Rattle.std.proofs.lemmas.Bool.{and_parts, eq-eqb}
 use Rattle.std.proofs.lemmas.List.Sums.{sum_by_push}
 use Rattle.xv_base.specs.declared.event.Event.TheVariants.{Guest, Begin, Read, Advance, Release, Round, Page, Send, Deliver, Apply, Ack, Credit, Stun, Switch, Cancel}
 use Rattle.xv_base.specs.declared.answer.Turn.TheVariants.{Done, Queued, Faulted, Failed}
-use Rattle.xv_device.specs.Device.{is_listed}
+use Rattle.xv_base.specs.Calls.{is_listed}
 use Rattle.xv_model.specs.Job.{Job, Fault}
 use Rattle.xv_model.specs.View.{View, is_switched}
 use Rattle.xv_model.specs.Wait.{Event, Why, wait, fits, next_operation, next_aim, is_join}

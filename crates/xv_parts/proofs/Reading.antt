@@ -11,7 +11,7 @@ use Rattle.xv_job.specs.Written.{Written, job_of}
 use Rattle.xv_core.specs.Seen.{Seen, view_of}
 use Rattle.xv_core.specs.Stepped.{IsStep}
 use Rattle.xv_core.specs.Keeping.{IsKept, HoldsGuest, tells}
-use Rattle.xv_core.proofs.ReadsBehind.{AddsOne, step-adds, reads-more}
+use Rattle.xv_core.proofs.Stepped.ReadsBehind.{AddsOne, step-adds, reads-more}
 use Rattle.xv_parts.specs.Memory.{IsInMemory}
 use Rattle.xv_parts.proofs.Staying.{view-after, stays}
 

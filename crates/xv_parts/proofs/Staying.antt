@@ -14,8 +14,8 @@ use Rattle.xv_core.specs.Seen.{Seen, view_of}
 use Rattle.xv_core.specs.Rising.{Rises, TakesRise}
 use Rattle.xv_core.specs.Stepped.{KeepsUnwritten, TellsOn, IsStep}
 use Rattle.xv_core.specs.Keeping.{IsKept}
-use Rattle.xv_core.proofs.CountingRises.{rises-refl, rises-over}
-use Rattle.xv_core.proofs.PlansRise.{takes-rise-refl, takes-rise-over}
+use Rattle.xv_core.proofs.Counting.Rises.{rises-refl, rises-over}
+use Rattle.xv_core.proofs.Plans.Rise.{takes-rise-refl, takes-rise-over}
 use Rattle.xv_parts.specs.Memory.{begun_in_memory, IsInMemory}
 use Rattle.xv_parts.proofs.Stepping.{run-after}
 

@@ -12,7 +12,7 @@ use Rattle.xv_model.specs.Wait.{Event, Why, wait, next_aim, is_join}
 use Rattle.xv_model.specs.Effect.{Turn, answer, fault_answer}
 use Rattle.xv_model.specs.Step.{Entry, Call, turn, turn_by, step, view_by, breaks, run, call, calls, call_of, entry_of, is_flagged, is_wait, same_truth, is_planned, is_faithful, flag, flag_by}
 use Rattle.xv_model.proofs.OneMore.{run-one, calls-one, is_faithful-one}
-use Rattle.xv_core.proofs.MovedSettled.{wait-unflagged}
+use Rattle.xv_core.proofs.MovingEvents.Settled.{wait-unflagged}
 
 -- an event that goes on is answered by no wait, and not flagged where its call did not fail
 abbrev pub IsPlain : Turn → Type 0

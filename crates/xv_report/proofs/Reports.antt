@@ -4,7 +4,7 @@ use Rattle.xv_base.specs.declared.event.Totals.{Totals}
 use Rattle.xv_io.specs.Io.{TookMore, TookFront}
 use Rattle.xv_report.specs.Texts.{state_rows, work_rows, counts_rows, tally_rows, report_text}
 use Rattle.xv_report.specs.Workers.{Tally, tally_of}
-use Rattle.xv_report.proofs.Took.{took-both, front-first, front-last}
+use Rattle.xv_io.proofs.Took.{took-both, front-first, front-last}
 
 -- the twelve lines
 abbrev pub plain_text : Totals → List ℕ

@@ -1,43 +1,14 @@
 -- How what several writes take adds up to a text.
-use Rattle.std.proofs.Common.{◌≡◌, ℕ, zero, suc, ◌+◌, ◌-◌, ◌<◌, ◌≤◌, List, [], ◌∷◌, ◌++◌, length, take, drop, decimal, get_or, Option, None, Some, option_map, refl, sym, ap, ◌∙◌, subst, arith, append_assoc, append-nil, length-append, zero-add, add-zero}
-use Rattle.std.proofs.lemmas.List.{take-append-le, take-append-drop, take_more}
+use Rattle.std.proofs.Common.{◌≡◌, ℕ, zero, suc, ◌+◌, ◌-◌, ◌<◌, ◌≤◌, List, [], ◌∷◌, ◌++◌, length, take, drop, decimal, get_or, Option, sym, ap, ◌∙◌, subst, arith, append_assoc, append-nil, zero-add, add-zero}
+use Rattle.std.proofs.lemmas.List.{take-append-drop, take_more}
 use Rattle.std.proofs.lemmas.Grind.{flat_map-append}
 use Rattle.std.proofs.Math.Seq.{take-add}
 use Rattle.xv_report.specs.Texts.{full_line, unit_line, side_text}
 use Rattle.xv_base.specs.Hex.{hex}
 use Rattle.xv_base.proofs.Hexes.{hex-append}
 use Rattle.std.specs.List.{flat_map, range_with_len}
-use Rattle.xv_io.specs.Io.{CountRose, TookMore, TookFront}
-
--- one call takes xs and the next ys
-pub took-both : (a b c : Option (List ℕ)) (xs ys : List ℕ) → TookMore a b xs → TookMore b c ys → TookMore a c (xs ++ ys)
-took-both None b c xs ys p q = q ∙ ap (option_map (λ (r : List ℕ). r ++ ys)) p
-took-both (Some r) b c xs ys p q = q ∙ ap (option_map (λ (r : List ℕ). r ++ ys)) p ∙ ap Some (append_assoc r xs ys)
-
-pub took-none : (a : Option (List ℕ)) → TookMore a a []
-took-none None = refl
-took-none (Some r) = ap Some (sym (append-nil r))
-
-pub front-none : (a : Option (List ℕ)) (xs : List ℕ) → TookFront a a xs
-front-none a xs = (0, omega arith, took-none a)
-
-take_over : (xs ys rest : List ℕ) (n : ℕ) → n ≤ length ys → take (length xs + n) (xs ++ (ys ++ rest)) ≡ xs ++ take n ys
-take_over [] ys rest n h = ap (λ (k : ℕ). take k (ys ++ rest)) (zero-add n) ∙ take-append-le n ys rest h
-take_over (x ∷ xs) ys rest n h =
-    let e : length (x ∷ xs) + n ≡ suc (length xs + n) = omega arith in
-    ap (λ (k : ℕ). take k (x ∷ (xs ++ (ys ++ rest)))) e ∙ ap (λ (zs : List ℕ). x ∷ zs) (take_over xs ys rest n h)
-
--- a front of a front, behind what was taken whole
-pub front-then : (a b c : Option (List ℕ)) (xs ys text : List ℕ) → TookMore a b xs → TookFront b c ys → (rest : List ℕ) → text ≡ xs ++ (ys ++ rest) → TookFront a c text
-front-then a b c xs ys text p (n, h, q) rest e = (
-  length xs + n,
-  omega (arith, ap length e, length-append xs (ys ++ rest), length-append ys rest),
-  subst (λ (t : List ℕ). TookMore a c t) (sym (ap (λ (t : List ℕ). take (length xs + n) t) e ∙ take_over xs ys rest n h)) (took-both a b c xs (take n ys) p q),
-)
-
--- a rise behind counts that did not fall
-pub rose-then : (a b c : ℕ) → a ≤ b → CountRose b c → CountRose a c
-rose-then a b c h r = omega arith
+use Rattle.xv_io.specs.Io.{TookMore, TookFront}
+use Rattle.xv_io.proofs.Took.{took-both, front-then, front-whole}
 
 -- the pieces of numbers in a row
 pub range_parts : (f : ℕ → List ℕ) (a n m : ℕ) → flat_map f (range_with_len a (n + m)) ≡ flat_map f (range_with_len a n) ++ flat_map f (range_with_len (a + n) m)
@@ -74,13 +45,6 @@ hex_rest bytes n next h k =
     ∙ ap (λ (zs : List ℕ). zs ++ hex (drop next bytes)) (hex_next bytes n next h k)
     ∙ append_assoc (hex (take n bytes)) (hex (take (next - n) (drop n bytes))) (hex (drop next bytes))
 
--- a text that is A ++ B is written by A and then B: what A takes whole and B takes a front of is a front of both
-pub front-first : (a b : Option (List ℕ)) (xs rest text : List ℕ) → TookFront a b xs → text ≡ xs ++ rest → TookFront a b text
-front-first a b xs rest text h e = front-then a a b [] xs text (took-none a) h rest e
-
-pub front-last : (a b c : Option (List ℕ)) (xs ys text : List ℕ) → TookMore a b xs → TookFront b c ys → text ≡ xs ++ ys → TookFront a c text
-front-last a b c xs ys text p h e = front-then a b c xs ys text p h [] (e ∙ ap (λ (zs : List ℕ). xs ++ zs) (sym (append-nil ys)))
-
 -- what was taken up to a unit, and one unit more
 pub range-took : (f : ℕ → List ℕ) (a b c : Option (List ℕ)) (n : ℕ) → TookMore a b (flat_map f (range_with_len 0 n)) → TookMore b c (f n) → TookMore a c (flat_map f (range_with_len 0 (n + 1)))
 range-took f a b c n p q =
@@ -107,15 +71,6 @@ pub hex-front : (a b c : Option (List ℕ)) (bytes : List ℕ) (n next : ℕ) (p
 hex-front a b c bytes n next piece h k p e q =
     front-then a b c (hex (take n bytes)) (hex (take (next - n) (drop n bytes))) (hex bytes) p (subst (λ (t : List ℕ). TookFront b c t) e q) (hex (drop next bytes)) (hex_rest bytes n next h k)
 
-pub at_text : (a b : Option (List ℕ)) (xs ys : List ℕ) → xs ≡ ys → TookFront a b xs → TookFront a b ys
-at_text a b xs ys e h = subst (λ (t : List ℕ). TookFront a b t) e h
-
-pub took-text : (a b : Option (List ℕ)) (xs ys : List ℕ) → xs ≡ ys → TookMore a b xs → TookMore a b ys
-took-text a b xs ys e h = subst (λ (t : List ℕ). TookMore a b t) e h
-
-pub front-whole : (a b : Option (List ℕ)) (xs : List ℕ) → TookMore a b xs → TookFront a b xs
-front-whole a b xs p = front-last a b b xs [] xs p (front-none b []) (sym (append-nil xs))
-
 -- the line of each unit of one side
 abbrev pub line_of : List ℕ → List (List ℕ) → ℕ → List ℕ
 line_of side contents unit = unit_line side unit (get_or contents unit [])
@@ -136,10 +91,6 @@ rows_rest f xs n d h =
     ap (flat_map f) (sym (take-append-drop (n + 1) xs)) ∙ flat_map-append f (take (n + 1) xs) (drop (n + 1) xs)
     ∙ ap (λ (r : List ℕ). r ++ flat_map f (drop (n + 1) xs)) (rows_next f xs n d h)
     ∙ append_assoc (flat_map f (take n xs)) (f (get_or xs n d)) (flat_map f (drop (n + 1) xs))
-
-pub rows-took : {A : Type 0} (f : A → List ℕ) (xs : List A) (a b c : Option (List ℕ)) (n : ℕ) (d : A) → n < length xs → TookMore a b (flat_map f (take n xs)) → TookMore b c (f (get_or xs n d)) → TookMore a c (flat_map f (take (n + 1) xs))
-rows-took f xs a b c n d h p q =
-    subst (λ (t : List ℕ). TookMore a c t) (sym (rows_next f xs n d h)) (took-both a b c (flat_map f (take n xs)) (f (get_or xs n d)) p q)
 
 pub rows-front : {A : Type 0} (f : A → List ℕ) (xs : List A) (a b c : Option (List ℕ)) (n : ℕ) (d : A) → n < length xs → TookMore a b (flat_map f (take n xs)) → TookFront b c (f (get_or xs n d)) → TookFront a c (flat_map f xs)
 rows-front f xs a b c n d h p q =

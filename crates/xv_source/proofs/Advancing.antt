@@ -1,7 +1,6 @@
 -- A region that is sent off, in the fields and as the machine's step.
-use Rattle.std.specs.Prelude.{◌≡◌, ◌≤◌, ◌<◌, Bool, ℕ, zero, suc, ◌+◌, ◌-◌, true, false, List, [], ◌∷◌, ◌++◌, length, map, set, get_or, None}
+use Rattle.std.specs.Prelude.{◌≡◌, ◌≤◌, ◌<◌, Bool, ℕ, zero, suc, ◌+◌, ◌-◌, false, List, [], ◌∷◌, ◌++◌, length, map, set, get_or, None}
 use Rattle.std.proofs.Common.{refl, sym, ap, subst, ◌∙◌, arith}
-use Rattle.std.proofs.lemmas.Bool.{lt-ltb, eq-eqb, and_from}
 use Rattle.std.proofs.lemmas.List.{take_all}
 use Rattle.xv_base.specs.Units.{Shape, units, size, blocks, unit_of_block}
 use Rattle.xv_base.specs.declared.limits.Config.{Config}
@@ -15,7 +14,7 @@ use Rattle.xv_model.specs.View.{View, number, Disk, Outbox as Box, UnitHead, no_
 use Rattle.xv_model.specs.Effect.{made_run, advanced}
 use Rattle.xv_model.proofs.GoesOn.{advance_goes}
 use Rattle.xv_outbox.specs.Messages.{Outbox, Message, heads, contents}
-use Rattle.xv_region.specs.Copying.{Copying, is_ready}
+use Rattle.xv_region.specs.Copying.{Copying}
 use Rattle.xv_source.specs.declared.disk.DiskCopy.{DiskCopy}
 use Rattle.xv_source.specs.Half.{Source, with_limits, with_source}
 use Rattle.xv_source.specs.Kept.{numbers_of, IsCopyOf, IsKept}
@@ -43,9 +42,6 @@ may-go h d copy goes same within =
     let all : copy.region.region ≤ length copy.region.read = subst (λ (k : Disk). k.region ≤ k.got) (sym same) g.all_read in
     let room : length h.messages + copy.region.region ≤ h.config.outbox = subst (λ (k : Disk). length h.messages + k.region ≤ h.config.outbox) (sym same) g.has_room in
     record { some = some; all = omega arith; room = omega arith }
-
-pub ready-is : (h : Source) (copy : DiskCopy) → MayGo h copy → is_ready copy.region ≡ true
-ready-is h copy may = and_from _ _ (lt-ltb 0 copy.region.region may.some) (eq-eqb (length copy.region.read) copy.region.region may.all)
 
 -- its units are blocks of the disk, each of the size of its places
 module _ (s : Shape) (most d : ℕ) (copy : DiskCopy) (of : IsCopyOf s most d copy) (lt : d < length s.disks) (some : 0 < copy.region.region) (all : length copy.region.read ≡ copy.region.region) where

@@ -1,13 +1,13 @@
 -- The messages that go on a stream together: which they are, and that their frame fits the wire.
 use Rattle.std.specs.Prelude.{◌≡◌, ◌<◌, ◌≤◌, ℕ, zero, suc, ◌+◌, ◌-◌, ◌*◌, Bool, List, [], ◌∷◌, length, take, drop, get_or}
 use Rattle.std.proofs.Common.{refl, sym, ap, ◌∙◌, arith}
-use Rattle.std.proofs.lemmas.List.{drop-map, take-map, drop-drop, length-map, length-take-le}
+use Rattle.std.proofs.lemmas.List.{drop-map, drop-drop}
 use Rattle.xv_base.specs.Units.{Shape, max_size}
 use Rattle.xv_base.specs.declared.limits.Config.{Config}
 use Rattle.xv_credit.specs.Counts.{Count}
 use Rattle.xv_device.specs.Told.{Told}
-use Rattle.xv_frame.specs.Frame.{Message, message, GroupFrame, Each, spelled}
-use Rattle.xv_outbox.specs.Messages.{Outbox, Message as Unsent, UnitHead, heads, contents}
+use Rattle.xv_frame.specs.Frame.{Message, GroupFrame, Each, spelled}
+use Rattle.xv_outbox.specs.Messages.{Outbox, UnitHead, heads, contents}
 use Rattle.xv_streams.specs.Streamed.{LaneSeen, no_lane}
 use Rattle.xv_streams.specs.Carried.{IsCarried, IsMade}
 use Rattle.xv_streams.specs.Fronts.{HasRoomFor}
@@ -15,28 +15,25 @@ use Rattle.xv_source.specs.declared.disk.DiskCopy.{DiskCopy}
 use Rattle.xv_source.specs.Half.{Source}
 use Rattle.xv_source.specs.Kept.{source_of}
 use Rattle.xv_source.specs.Step.{joined_messages}
-use Rattle.xv_source.specs.Batches.{framed, outbox_past, past}
+use Rattle.xv_source.specs.Batches.{outbox_past, past}
 
 -- one that is taken off more
-pub drop_one_more : (xs : List Unsent) (n : ℕ) → drop 1 (drop n xs) ≡ drop (n + 1) xs
+pub drop_one_more : (xs : List Message) (n : ℕ) → drop 1 (drop n xs) ≡ drop (n + 1) xs
 drop_one_more xs n = drop-drop 1 n xs
 
 -- messages by their heads and contents
-joined-framed : (ms : List Unsent) → joined_messages (heads ms) (contents ms) ≡ framed ms
-joined-framed [] = refl
-joined-framed (m ∷ ms) = ap (λ (rest : List Message). message m.head m.content ∷ rest) (joined-framed ms)
+joined-back : (ms : List Message) → joined_messages (heads ms) (contents ms) ≡ ms
+joined-back [] = refl
+joined-back (m ∷ ms) = ap (λ (rest : List Message). m ∷ rest) (joined-back ms)
 
-pub batch-framed : (ms : List Unsent) (n : ℕ) → take n (joined_messages (heads ms) (contents ms)) ≡ framed (take n ms)
-batch-framed ms n = ap (λ (x : List Message). take n x) (joined-framed ms) ∙ take-map (λ (m : Unsent). message m.head m.content) n ms
+pub batch-back : (ms : List Message) (n : ℕ) → take n (joined_messages (heads ms) (contents ms)) ≡ take n ms
+batch-back ms n = ap (λ (x : List Message). take n x) (joined-back ms)
 
-pub heads-past : (ms : List Unsent) (n : ℕ) → heads (drop n ms) ≡ drop n (heads ms)
-heads-past ms n = sym (drop-map (λ (m : Unsent). m.head) n ms)
+pub heads-past : (ms : List Message) (n : ℕ) → heads (drop n ms) ≡ drop n (heads ms)
+heads-past ms n = sym (drop-map (λ (m : Message). m.head) n ms)
 
-pub contents-past : (ms : List Unsent) (n : ℕ) → contents (drop n ms) ≡ drop n (contents ms)
-contents-past ms n = sym (drop-map (λ (m : Unsent). m.content) n ms)
-
-pub length-framed : (ms : List Unsent) (n : ℕ) → n ≤ length ms → length (framed (take n ms)) ≡ n
-length-framed ms n le = length-map (take n ms) (λ (m : Unsent). message m.head m.content) ∙ length-take-le n ms le
+pub contents-past : (ms : List Message) (n : ℕ) → contents (drop n ms) ≡ drop n (contents ms)
+contents-past ms n = sym (drop-map (λ (m : Message). m.content) n ms)
 
 -- what holds of each stream holds of one
 pub each-lane : (P : LaneSeen → Type 0) (ls : List LaneSeen) (k : ℕ) → k < length ls → Each P ls → P (get_or ls k no_lane)

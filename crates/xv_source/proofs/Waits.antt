@@ -1,15 +1,15 @@
 -- What the half's own call waits for is what the machine does, in whatever migration lets the event go on.
-use Rattle.std.specs.Prelude.{◌≡◌, ℕ, ◌==◌, ◌&&◌, not, Bool, true, false, None, nat_lt, length, get_or, if◌then◌else◌}
+use Rattle.std.specs.Prelude.{◌≡◌, ℕ, ◌==◌, ◌&&◌, ◌||◌, not, Bool, true, false, Option, None, IfSome, nat_lt, nat_le, length, get_or, if◌then◌else◌}
 use Rattle.std.proofs.Common.{refl, sym, ap, ◌∙◌}
 use Rattle.std.proofs.lemmas.Bool.{and_parts, not-true}
-use Rattle.xv_base.specs.declared.answer.Why.TheVariants.{CancelDue, NotNow, NothingThere, Throttled}
+use Rattle.xv_base.specs.declared.answer.Why.TheVariants.{CancelDue, NotNow, NothingThere, Throttled, NoCredit}
 use Rattle.xv_base.specs.declared.event.Event.TheVariants.{Guest, Begin, Read, Advance, Release, Round, Page, Send, Deliver, Apply, Ack, Credit, Stun, Switch, Cancel}
-use Rattle.xv_model.specs.Job.{Job, block_of}
-use Rattle.xv_model.specs.View.{View, no_disk, is_running, is_empty, is_inside, is_empty_set, all_copied, front}
-use Rattle.xv_model.specs.Wait.{Event, wait, unless, cancel_due, is_before, is_full, may_stun}
+use Rattle.xv_model.specs.Job.{Job, blocks, block_of}
+use Rattle.xv_model.specs.View.{View, no_disk, is_running, is_empty, is_inside, is_empty_set, is_copied, all_copied, front}
+use Rattle.xv_model.specs.Wait.{Event, Why, wait, unless, cancel_due, is_before, is_full, room, may_begin_round, may_stun}
 use Rattle.xv_source.specs.Half.{Source, with_limits, with_source}
 use Rattle.xv_source.specs.Step.{is_let, Allows, is_of_source}
-use Rattle.xv_source.specs.Waits.{own_wait, is_asked}
+use Rattle.xv_source.specs.Waits.{own_wait, is_asked, plain_job, plain_view, judges}
 use Rattle.xv_source.proofs.Steps.{along, against}
 
 -- the events whose wait the half knows
@@ -105,3 +105,35 @@ own-of count Credit of = of
 own-of count Stun of = refl
 own-of count Switch of = of
 own-of count Cancel of = of
+
+-- what holds of a reason, and of a later one, holds of the wait that comes of both
+pub unless-if : (P : Why → Type 0) (b : Bool) (why : Why) (later : Option Why) → P why → IfSome later P → IfSome (unless b why later) P
+unless-if P true why later here rest = here
+unless-if P false why later here rest = rest
+
+-- the half's own call answers no wait but those that it judges
+pub own-judged : (beside : Bool) (h : Source) (event : Event) → is_own event ≡ true → IfSome (own_wait beside h event) (λ why. judges event why ≡ true)
+own-judged beside h (Begin d) of = unless-if (λ why. judges (Begin d) why ≡ true) (is_copied (blocks h.shape.disks d) (get_or h.disks d no_disk) || not ((get_or h.disks d no_disk).region == 0) || not (is_empty (get_or h.disks d no_disk).queue)) NotNow None refl tt
+own-judged beside h (Read d) of = unless-if (λ why. judges (Read d) why ≡ true) (nat_le (get_or h.disks d no_disk).region (get_or h.disks d no_disk).got) NotNow None refl tt
+own-judged beside h (Advance d) of =
+    unless-if (λ why. judges (Advance d) why ≡ true) (((get_or h.disks d no_disk).region == 0) || nat_lt (get_or h.disks d no_disk).got (get_or h.disks d no_disk).region) NotNow _ refl
+    (unless-if (λ why. judges (Advance d) why ≡ true) (nat_lt (room (plain_job beside h) (plain_view h)) (get_or h.disks d no_disk).region) Throttled None refl tt)
+own-judged beside h (Release d) of =
+    unless-if (λ why. judges (Release d) why ≡ true) (is_empty (get_or h.disks d no_disk).queue) NothingThere _ refl
+    (unless-if (λ why. judges (Release d) why ≡ true) (is_inside (get_or h.disks d no_disk) (block_of h.shape (front (get_or h.disks d no_disk)).unit.0)) NotNow _ refl
+    (unless-if (λ why. judges (Release d) why ≡ true) (is_full (plain_job beside h) (plain_view h)) Throttled None refl tt))
+own-judged beside h Round of = unless-if (λ why. judges Round why ≡ true) (not (may_begin_round (plain_job beside h) (plain_view h))) NotNow None refl tt
+own-judged beside h Page of =
+    unless-if (λ why. judges Page why ≡ true) (is_empty_set h.to_send) NothingThere _ refl
+    (unless-if (λ why. judges Page why ≡ true) (is_full (plain_job beside h) (plain_view h)) Throttled None refl tt)
+own-judged beside h (Send s) of =
+    unless-if (λ why. judges (Send s) why ≡ true) (is_empty h.messages) NothingThere _ refl
+    (unless-if (λ why. judges (Send s) why ≡ true) (h.credit == 0) NoCredit None refl tt)
+own-judged beside h Stun of = unless-if (λ why. judges Stun why ≡ true) (not (may_stun (plain_job beside h) (plain_view h))) NotNow None refl tt
+own-judged beside h (Guest g) of = absurd (cc)
+own-judged beside h (Deliver s) of = absurd (cc)
+own-judged beside h Apply of = absurd (cc)
+own-judged beside h Ack of = absurd (cc)
+own-judged beside h Credit of = absurd (cc)
+own-judged beside h Switch of = absurd (cc)
+own-judged beside h Cancel of = absurd (cc)

@@ -1,14 +1,10 @@
 -- The messages that go on a stream together.
-use Rattle.std.specs.Prelude.{ℕ, ◌-◌, ◌==◌, List, map, drop, if◌then◌else◌}
-use Rattle.xv_frame.specs.Frame.{Message, message}
-use Rattle.xv_outbox.specs.Messages.{Outbox, Message as Unsent}
+use Rattle.std.specs.Prelude.{ℕ, ◌-◌, ◌==◌, drop, if◌then◌else◌}
+use Rattle.xv_base.specs.declared.limits.TheConstants.{SINGLE_FORMAT}
+use Rattle.xv_outbox.specs.Messages.{Outbox}
 use Rattle.xv_model.specs.View.{UnitHead}
 use Rattle.xv_model.specs.Effect.{Turn, note}
 use Rattle.xv_source.specs.Half.{Source}
-
--- the messages of an outbox as a frame has them
-abbrev pub framed : List Unsent → List Message
-framed messages = map (λ m. message m.head m.content) messages
 
 -- an outbox and a half without the first n messages, each of which has taken one of the credit
 abbrev pub outbox_past : ℕ → Outbox → Outbox
@@ -20,4 +16,4 @@ past n h = record h { messages = drop n h.messages; contents = drop n h.contents
 -- what is told of some messages, of which this is the first: one by its unit and version, a group by its length and its
 -- first unit
 abbrev pub told_of : ℕ → ℕ → UnitHead → Turn
-told_of format n first = if format == 1 then note first.unit.0 first.version else note n first.unit.0
+told_of format n first = if format == SINGLE_FORMAT then note first.unit.0 first.version else note n first.unit.0

@@ -1,18 +1,19 @@
 -- The limits of a job as far as the source's half keeps to them, how it begins, and what it keeps.
 use Rattle.std.specs.Prelude.{◌≤◌, ℕ, true, false, [], map, replicate}
 use Rattle.xv_base.specs.Units.{Shape, units}
+use Rattle.xv_base.specs.declared.limits.TheConstants.{MOST_STREAMS, MOST_CREDIT, MOST_OUTBOX, MOST_REGION, MOST_ROUNDS, MOST_DIRTY}
 use Rattle.xv_base.specs.declared.limits.Config.{Config}
 use Rattle.xv_device.specs.Told.{Told}
 use Rattle.xv_model.specs.View.{no_disk}
 use Rattle.xv_source.specs.Half.{Source}
 
 pub record AreLimits (config : Config) : Type 0 where
-  pub streams : (1 ≤ config.streams) × (config.streams ≤ 8)
-  pub credit : (1 ≤ config.credit) × (config.credit ≤ 1024)
-  pub outbox : (1 ≤ config.outbox) × (config.outbox ≤ 1024)
-  pub region : (1 ≤ config.region) × (config.region ≤ 256) × (config.region ≤ config.outbox)
-  pub rounds : (1 ≤ config.rounds) × (config.rounds ≤ 64)
-  pub dirty : config.dirty ≤ 1048576
+  pub streams : (1 ≤ config.streams) × (config.streams ≤ MOST_STREAMS)
+  pub credit : (1 ≤ config.credit) × (config.credit ≤ MOST_CREDIT)
+  pub outbox : (1 ≤ config.outbox) × (config.outbox ≤ MOST_OUTBOX)
+  pub region : (1 ≤ config.region) × (config.region ≤ MOST_REGION) × (config.region ≤ config.outbox)
+  pub rounds : (1 ≤ config.rounds) × (config.rounds ≤ MOST_ROUNDS)
+  pub dirty : config.dirty ≤ MOST_DIRTY
 
 -- nothing is copied, every page is to be sent, and all credit is there
 abbrev pub fresh : Shape → Config → Told → ℕ → Source

@@ -1,19 +1,18 @@
 -- What each event does to the source's half.
-use Rattle.std.specs.Prelude.{◌≡◌, ◌≤◌, ◌<◌, ◌⊎◌, ℕ, ◌==◌, ◌&&◌, ◌^◌, ◌-◌, min, nat_le, nat_lt, not, Bool, true, false, List, [], ◌∷◌, take, length, Option, Some, None, IfSome, if◌then◌else◌}
-use Rattle.xv_base.specs.Units.{Shape, is_page, size}
-use Rattle.xv_base.specs.Pattern.{repeated}
-use Rattle.xv_base.specs.declared.answer.Turn.TheVariants.{Done, Queued, Faulted, Wait, Failed}
+use Rattle.std.specs.Prelude.{◌≡◌, ◌≤◌, ◌<◌, ◌⊎◌, ℕ, ◌==◌, ◌&&◌, ◌^◌, ◌-◌, min, nat_le, nat_lt, not, Bool, true, false, List, [], ◌∷◌, take, length, if◌then◌else◌}
+use Rattle.xv_base.specs.declared.limits.TheConstants.{SINGLE_FORMAT, GROUP_FORMAT, MOST_GROUP}
 use Rattle.xv_base.specs.declared.event.Event.TheVariants.{Guest, Begin, Read, Advance, Release, Round, Page, Send, Deliver, Apply, Ack, Credit, Stun, Switch, Cancel}
 use Rattle.xv_frame.specs.Frame.{Message, message}
-use Rattle.xv_device.specs.Device.{DeviceCall, range_of}
+use Rattle.xv_device.specs.Device.{DeviceCall}
 use Rattle.xv_device.specs.Told.{Told, CallMade}
-pub use Rattle.xv_device.specs.Operations.{operation_call, operation_call_by, unit_read}
+pub use Rattle.xv_device.specs.Operations.{operation_call, operation_call_by, unit_read, AreRead}
 use Rattle.xv_model.specs.Job.{Job, UnitOp, trace}
 use Rattle.xv_model.specs.Guest.{ended}
 use Rattle.xv_model.specs.View.{View, UnitHead, disk, in_queue, is_empty, is_running, is_stunned, is_live, number}
 use Rattle.xv_model.specs.Wait.{Event, cancel_due, is_before}
 use Rattle.xv_model.specs.Effect.{Turn, with_disk, front_gone}
 use Rattle.xv_model.specs.Step.{turn, step, is_flagged, is_wait}
+pub use Rattle.xv_model.specs.Step.{went_out}
 use Rattle.xv_model.specs.Contents.{Contents, step_contents}
 use Rattle.xv_source.specs.Half.{Source, IsSourceOf, HasSourceBytes, AreWhole}
 
@@ -72,14 +71,6 @@ pub record StepsSource (job : Job) (v : View) (event : Event) (answer : Turn) (o
   pub failed : is_flagged answer ≡ true → IsSourceOf job (after_fault v event) new
   pub failed_bytes : (c : Contents) → is_flagged answer ≡ true → HasSourceBytes c old → HasSourceBytes c new
 
--- whether an answer tells of a call on the outside
-abbrev pub went_out : Turn → Bool
-went_out (Done n) = true
-went_out Queued = false
-went_out Faulted = true
-went_out (Wait why) = false
-went_out (Failed cause) = true
-
 -- exactly this call was made of the device where the answer tells of one, and failed where it says so; else none was
 pub record MakesCall (call : DeviceCall) (answer : Turn) (old new : Source) : Type 0 where
   pub made : went_out answer ≡ true → CallMade call (is_flagged answer) old.told new.told old.faults new.faults
@@ -92,7 +83,7 @@ pub record MakesNoCall (old new : Source) : Type 0 where
 
 -- the bytes that an operation read are the first of these
 pub record ReadsInto (op : UnitOp) (answer : Turn) (bytes : List ℕ) (told : Told) : Type 0 where
-  pub gives : went_out answer ≡ true → is_flagged answer ≡ false → op.write ≡ None → IfSome told.contents (λ contents. take op.len bytes ≡ range_of op.unit.0 op.offset op.len contents)
+  pub gives : went_out answer ≡ true → is_flagged answer ≡ false → AreRead op bytes told
 
 -- no unit has so many versions that there is no number for the next
 abbrev pub HasFewVersions : Source → Type 0
@@ -100,7 +91,7 @@ HasFewVersions h = (unit : ℕ) → number h.issued unit < 2 ^ 32 - 1
 
 -- how many messages go at once: one in format 1, and at most a group in format 2; and these messages
 abbrev pub batch_of : ℕ → ℕ → Source → ℕ
-batch_of format most h = if format == 1 then 1 else min most (min (length h.messages) h.credit)
+batch_of format most h = if format == SINGLE_FORMAT then 1 else min most (min (length h.messages) h.credit)
 
 abbrev pub joined_messages : List UnitHead → List (List ℕ) → List Message
 joined_messages [] cs = []
@@ -112,7 +103,7 @@ batch format most h = take (batch_of format most h) (joined_messages h.messages 
 
 -- what a batch may have at most
 abbrev pub IsMost : ℕ → ℕ → Type 0
-IsMost format most = ((format ≡ 1) × (most ≡ 1)) ⊎ ((format ≡ 2) × (1 ≤ most) × (most ≤ 16))
+IsMost format most = ((format ≡ SINGLE_FORMAT) × (most ≡ 1)) ⊎ ((format ≡ GROUP_FORMAT) × (1 ≤ most) × (most ≤ MOST_GROUP))
 
 -- an event whose wait the half knows, on a disk that is there
 abbrev pub is_of_source : ℕ → Event → Bool

@@ -1,8 +1,10 @@
 -- What the half's own call of an event waits for: what the machine does in a migration that runs and is not to be
 -- cancelled. What it knows of rounds beside the copy it is told.
-use Rattle.std.specs.Prelude.{Bool, false, [], Option, None, if◌then◌else◌}
+use Rattle.std.specs.Prelude.{Bool, true, false, [], Option, None, if◌then◌else◌}
+use Rattle.xv_base.specs.declared.limits.TheConstants.{SINGLE_FORMAT, GROUP_FORMAT}
 use Rattle.xv_base.specs.declared.event.Phase.TheVariants.{Running}
 use Rattle.xv_base.specs.declared.event.Event.TheVariants.{Guest, Begin, Read, Advance, Release, Round, Page, Send, Deliver, Apply, Ack, Credit, Stun, Switch, Cancel}
+use Rattle.xv_base.specs.declared.answer.Why.TheVariants.{NotNow, NothingThere, Throttled, NoCredit}
 use Rattle.xv_model.specs.Job.{Job}
 use Rattle.xv_model.specs.View.{View, Phase, is_running, is_live}
 use Rattle.xv_model.specs.Wait.{Event, Why, wait}
@@ -12,7 +14,7 @@ use Rattle.xv_source.specs.Half.{Source}
 abbrev pub plain_job : Bool → Source → Job
 plain_job beside h = record {
   shape = h.shape;
-  format = if beside then 2 else 1;
+  format = if beside then GROUP_FORMAT else SINGLE_FORMAT;
   group = 1;
   config = record h.config { cancel = None };
   faults = [];
@@ -58,3 +60,21 @@ is_asked phase Credit = is_live phase
 is_asked phase Stun = is_running phase
 is_asked phase Switch = false
 is_asked phase Cancel = false
+
+-- the waits that the half judges, by event: the whole migration judges all others, and no other comes of the half
+abbrev pub judges : Event → Why → Bool
+judges (Guest g) Throttled = true
+judges (Begin d) NotNow = true
+judges (Read d) NotNow = true
+judges (Advance d) NotNow = true
+judges (Advance d) Throttled = true
+judges (Release d) NothingThere = true
+judges (Release d) NotNow = true
+judges (Release d) Throttled = true
+judges Round NotNow = true
+judges Page NothingThere = true
+judges Page Throttled = true
+judges (Send s) NothingThere = true
+judges (Send s) NoCredit = true
+judges Stun NotNow = true
+judges event why = false

@@ -1,9 +1,9 @@
 //! The operations of the guests, at once and out of a queue.
 
-ghost use Rattle.std.specs.Prelude.{◌≡◌, ◌≤◌, ◌<◌, ◌+◌, ◌-◌, ◌^◌, ◌&&◌, not, nat_le, true, false, length as list_length, take, get_or, is_err, is_some, Some, IsNone, IfSome, OnOk, if◌then◌else◌};
+ghost use Rattle.std.specs.Prelude.{◌≡◌, ◌≤◌, ◌<◌, ◌+◌, ◌-◌, ◌^◌, ◌&&◌, not, nat_le, true, false, length as list_length, get_or, is_err, is_some, Some, IfSome, OnOk, if◌then◌else◌};
 ghost use Rattle.xv_base.specs.Units.{is_page, units, disk_of, block_of};
-ghost use Rattle.xv_device.specs.Device.{range_of};
 ghost use Rattle.xv_device.specs.Told.{HasRoomToCount};
+ghost use Rattle.xv_device.specs.Operations.{AreRead};
 ghost use Rattle.xv_model.specs.Job.{Job, IsLegal};
 ghost use Rattle.xv_model.specs.View.{View, is_running, is_live, is_switched, no_disk, block_side, is_behind, in_queue, front};
 ghost use Rattle.xv_model.specs.Wait.{next_operation, wait};
@@ -13,13 +13,16 @@ ghost use Rattle.xv_model.specs.Step.{is_flagged};
 ghost use Rattle.xv_base.specs.declared.event.Event.TheVariants.{Guest, Release};
 ghost use Rattle.xv_base.specs.declared.unit.GuestId.{GuestId};
 ghost use Rattle.xv_source.specs.Step.{HasFewVersions, Allows, StepsSource, MakesCall, ReadsInto, operation_call};
+ghost use Rattle.xv_source.specs.Waits.{judges};
 ghost use Rattle.xv_source.specs.Operations.{acted, released, stored, mirrored, queued, left, HasActed};
 
-use crate::operate::{operate, write_pattern};
 use crate::source::SourceHalf;
 use crate::waiting::unless;
-use xv_base::{Failed, GuestId, Note, Pattern, Side, Turn, UnitId, UnitOp, Waiting, Why};
-use xv_device::UnitDevice;
+use xv_base::{
+    Failed, GuestId, MOST_GUESTS, MOST_PATTERN, Note, Pattern, Side, Turn, UnitId, UnitOp, Waiting,
+    Why,
+};
+use xv_device::{UnitDevice, operate};
 use xv_filter::place;
 
 impl<S: UnitDevice> SourceHalf<S> {
@@ -28,11 +31,11 @@ impl<S: UnitDevice> SourceHalf<S> {
     /// is being copied waits in the queue of its disk; a page that is stored is sent again. What is read are the first of
     /// `into`, which has 64 bytes at least.
     pub fn guest(&mut self, guest: GuestId, op: &UnitOp, length: u32, into: &mut [u8]) -> Turn
-        requires small { guest.0 < 16 }
+        requires small { guest.0 < MOST_GUESTS }
         requires free { in_queue self.old.disks guest.0 ≡ false }
         requires legal { IsLegal self.old.shape op.now }
         requires short { length < 2 ^ 32 - 1 }
-        requires room { 64 ≤ list_length into.old }
+        requires room { MOST_PATTERN ≤ list_length into.old }
         requires few { HasFewVersions self.old }
         requires countable { HasRoomToCount self.old.told }
         ensures step { (job : Job) (v : View) → Allows job v (Guest guest) self.old → is_running v.phase ≡ true → next_operation job v guest.0 ≡ op.now → list_length v.history ≡ length → StepsSource job v (Guest guest) result self.old self.new }
@@ -68,13 +71,14 @@ impl<S: UnitDevice> SourceHalf<S> {
     /// bytes at least.
     pub fn guest_alone(&mut self, op: &UnitOp, into: &mut [u8]) -> Turn
         requires legal { IsLegal self.old.shape op.now }
-        requires room { 64 ≤ list_length into.old }
+        requires room { MOST_PATTERN ≤ list_length into.old }
         requires countable { HasRoomToCount self.old.told }
         ensures step { (job : Job) (v : View) (guest : GuestId) → Allows job v (Guest guest) self.old → is_live v.phase ≡ false → is_switched v.phase ≡ false → next_operation job v guest.0 ≡ op.now → StepsSource job v (Guest guest) result self.old self.new }
         ensures call { MakesCall (operation_call self.old.shape op.now) result self.old self.new }
         ensures reads { ReadsInto op.now result into.new self.old.told }
     {
-        acted(op, self.operate(op, into))
+        let made = self.operate(op, into);
+        acted(op, made)
     }
 
     /// The write of the guest that waits first for a disk, where the history has this length. The migration runs. The write is
@@ -152,7 +156,8 @@ impl<S: UnitDevice> SourceHalf<S> {
     /// The wait that `guest` would answer now. The migration runs, and the guest's next operation is this.
     pub fn guest_waits(&self, guest: GuestId, op: &UnitOp) -> Option<Why>
         requires { op.now.unit.0 < units self.now.shape }
-        ensures { (job : Job) (v : View) → Allows job v (Guest guest) self.now → is_running v.phase ≡ true → next_operation job v guest.0 ≡ op.now → result ≡ wait job v (Guest guest) false }
+        ensures exactly { (job : Job) (v : View) → Allows job v (Guest guest) self.now → is_running v.phase ≡ true → next_operation job v guest.0 ≡ op.now → result ≡ wait job v (Guest guest) false }
+        ensures own { IfSome result (λ why. judges (Guest guest) why ≡ true) }
     {
         unless(self.is_throttled(op), Why::Throttled, None)
     }
@@ -200,10 +205,10 @@ impl<S: UnitDevice> SourceHalf<S> {
     #[tactic(auto, using(crate::proofs::Guesting::len_fits))]
     fn operate(&mut self, op: &UnitOp, into: &mut [u8]) -> Result<(), Failed>
         requires legal { IsLegal self.old.shape op.now }
-        requires room { 64 ≤ list_length into.old }
+        requires room { MOST_PATTERN ≤ list_length into.old }
         requires countable { HasRoomToCount self.old.told }
         ensures acted { HasActed op.now (is_err result) self.old self.old self.new }
-        ensures gives { OnOk result (IsNone op.now.write → IfSome self.old.told.contents (λ contents. take op.now.len into.new ≡ range_of op.now.unit.0 op.now.offset op.now.len contents)) }
+        ensures gives { OnOk result (AreRead op.now into.new self.old.told) }
     {
         operate(&mut self.device, &self.layout, op, &mut self.unit, into)
     }
@@ -216,7 +221,7 @@ impl<S: UnitDevice> SourceHalf<S> {
         requires countable { HasRoomToCount self.old.told }
         ensures { HasActed op.now (is_err result) self.old self.old self.new }
     {
-        write_pattern(&mut self.device, &self.layout, op, pattern, &mut self.unit)
+        operate(&mut self.device, &self.layout, op, &mut self.unit, &mut [])
     }
 
     /// Makes the call of a write, and a message of what was written; there is room for it.
@@ -231,7 +236,7 @@ impl<S: UnitDevice> SourceHalf<S> {
         requires countable { HasRoomToCount self.old.told }
         ensures { HasActed op.now (is_err result) self.old (if is_err result then self.old else mirrored op.now (length + 1) self.old) self.new }
     {
-        match write_pattern(&mut self.device, &self.layout, op, pattern, &mut self.unit) {
+        match operate(&mut self.device, &self.layout, op, &mut self.unit, &mut []) {
             Ok(()) => {
                 let bytes = &self.unit[..op.len as usize];
                 let _ = self.outbox.issue(op.unit, length + 1, bytes);
@@ -294,7 +299,7 @@ impl<S: UnitDevice> SourceHalf<S> {
         requires disk_in { disk < list_length self.old.disks }
         requires unit_in { waiting.unit.0 < units self.old.shape }
         requires block { is_page self.old.shape waiting.unit.0 ≡ false }
-        requires small { waiting.guest.0 < 16 }
+        requires small { waiting.guest.0 < MOST_GUESTS }
         requires free { in_queue self.old.disks waiting.guest.0 ≡ false }
         ensures { self.new ≡ queued disk waiting.guest.0 waiting.unit.0 self.old }
     {

@@ -13,7 +13,6 @@ mod copying;
 mod disk;
 mod guests;
 mod messages;
-mod operate;
 mod pages;
 mod pairing;
 mod parts;

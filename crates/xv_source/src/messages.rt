@@ -13,7 +13,7 @@ ghost use Rattle.xv_source.specs.Batches.{past, told_of};
 
 use crate::sending::{put_batch, take_off};
 use crate::source::SourceHalf;
-use xv_base::{Cause, Failed, Note, Turn, UnitHead, Why};
+use xv_base::{Cause, Failed, Note, SINGLE_FORMAT, Turn, UnitHead, Why};
 use xv_device::UnitDevice;
 use xv_streams::{BackWire, Streams};
 use xv_wire::Wire;
@@ -68,7 +68,7 @@ impl<S: UnitDevice> SourceHalf<S> {
     fn batch(&self, format: u8, most: u32) -> u32
         ensures { result ≡ batch_of format most self.now }
     {
-        if format == 1 {
+        if format == SINGLE_FORMAT {
             return 1;
         }
         let there = self.config.outbox - self.outbox.room();
@@ -116,7 +116,7 @@ impl<S: UnitDevice> SourceHalf<S> {
 fn told_of(format: u8, count: u32, first: UnitHead) -> Turn
     ensures { result ≡ told_of format count first }
 {
-    if format == 1 {
+    if format == SINGLE_FORMAT {
         Turn::Done(Note {
             a: first.unit.0,
             b: first.version,

@@ -13,7 +13,7 @@ ghost use Rattle.xv_source.specs.Waits.{own_wait};
 ghost use Rattle.xv_base.specs.declared.event.Event.TheVariants.{Round, Page, Stun};
 
 use crate::source::SourceHalf;
-use xv_base::{Cause, Failed, Note, Turn, UnitId};
+use xv_base::{Cause, Failed, GROUP_FORMAT, Note, Turn, UnitId};
 use xv_device::UnitDevice;
 use xv_outbox::Outbox;
 
@@ -23,7 +23,7 @@ impl<S: UnitDevice> SourceHalf<S> {
     /// where none may begin beside the copy, or no page is dirty.
     pub fn round(&mut self, beside: bool) -> Turn
         requires few { self.old.rounds < 2 ^ 32 - 1 }
-        ensures step { (job : Job) (v : View) → Allows job v Round self.old → beside ≡ (job.format == 2) → StepsSource job v Round result self.old self.new }
+        ensures step { (job : Job) (v : View) → Allows job v Round self.old → beside ≡ (job.format == GROUP_FORMAT) → StepsSource job v Round result self.old self.new }
         ensures call { MakesNoCall self.old self.new }
     {
         if let Some(why) = self.round_waits(beside) {

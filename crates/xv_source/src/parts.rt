@@ -1,6 +1,6 @@
 //! What the half takes memory for, all of it at the start.
 
-ghost use Rattle.std.specs.Prelude.{◌≡◌, ◌<◌, IfSome, length, map, replicate, true, vec_len};
+ghost use Rattle.std.specs.Prelude.{◌≡◌, ◌<◌, IfSome, length, replicate, true};
 ghost use Rattle.xv_base.specs.Units.{max_size};
 ghost use Rattle.xv_base.specs.Layout.{IsGood};
 ghost use Rattle.xv_dirty.specs.Pages.{no_pages};

@@ -5,9 +5,9 @@ ghost use Rattle.xv_frame.specs.Frame.{Each};
 ghost use Rattle.xv_streams.specs.Streamed.{lane, OnlyLane};
 ghost use Rattle.xv_streams.specs.Fronts.{PutsGroup, HasRoomFor};
 ghost use Rattle.xv_source.specs.Step.{IsMost};
-ghost use Rattle.xv_source.specs.Batches.{framed, outbox_past};
+ghost use Rattle.xv_source.specs.Batches.{outbox_past};
 
-use xv_base::Failed;
+use xv_base::{Failed, GROUP_FORMAT, MOST_GROUP, SINGLE_FORMAT};
 use xv_credit::Credit;
 use xv_outbox::Outbox;
 use xv_streams::Streams;
@@ -32,9 +32,9 @@ pub fn put_batch<W: Wire>(
     requires countable { IfSome (lane streams.old stream).wire.counted (λ c. c.puts < 2 ^ 63) }
     ensures others { OnlyLane stream streams.old streams.new }
     ensures none_made { streams.new.making ≡ [] }
-    ensures put { PutsGroup streams.old.format (framed (take count outbox.now.messages)) (is_err result) (lane streams.old stream) (lane streams.new stream) }
+    ensures put { PutsGroup streams.old.format (take count outbox.now.messages) (is_err result) (lane streams.old stream) (lane streams.new stream) }
 {
-    if streams.format() == 1 {
+    if streams.format() == SINGLE_FORMAT {
         put_one(streams, stream, outbox)
     } else {
         put_several(streams, stream, outbox, count)
@@ -45,13 +45,13 @@ pub fn put_batch<W: Wire>(
 fn put_one<W: Wire>(streams: &mut Streams<W>, stream: u8, outbox: &Outbox) -> Result<(), Failed>
     requires stream_in { stream < length streams.old.lanes }
     requires layout { outbox.now.shape ≡ streams.old.shape }
-    requires format { streams.old.format ≡ 1 }
+    requires format { streams.old.format ≡ SINGLE_FORMAT }
     requires there { 1 ≤ length outbox.now.messages }
     requires made { Each (λ m. 1 ≤ m.head.version) outbox.now.messages }
     requires room { HasRoomFor streams.old.shape 1 1 (lane streams.old stream) }
     requires countable { IfSome (lane streams.old stream).wire.counted (λ c. c.puts < 2 ^ 63) }
     ensures others { OnlyLane stream streams.old streams.new }
-    ensures put { PutsGroup 1 (framed (take 1 outbox.now.messages)) (is_err result) (lane streams.old stream) (lane streams.new stream) }
+    ensures put { PutsGroup 1 (take 1 outbox.now.messages) (is_err result) (lane streams.old stream) (lane streams.new stream) }
 {
     streams.hold_spellings();
     streams.send(stream, outbox.nth(0), outbox.nth_bytes(0))
@@ -66,9 +66,9 @@ fn put_several<W: Wire>(
 ) -> Result<(), Failed>
     requires stream_in { stream < length streams.old.lanes }
     requires layout { outbox.now.shape ≡ streams.old.shape }
-    requires format { streams.old.format ≡ 2 }
+    requires format { streams.old.format ≡ GROUP_FORMAT }
     requires some { 1 ≤ count }
-    requires few { count ≤ 16 }
+    requires few { count ≤ MOST_GROUP }
     requires there { count ≤ length outbox.now.messages }
     requires made { Each (λ m. 1 ≤ m.head.version) outbox.now.messages }
     requires none_made { streams.old.making ≡ [] }
@@ -76,7 +76,7 @@ fn put_several<W: Wire>(
     requires countable { IfSome (lane streams.old stream).wire.counted (λ c. c.puts < 2 ^ 63) }
     ensures others { OnlyLane stream streams.old streams.new }
     ensures none_made { streams.new.making ≡ [] }
-    ensures put { PutsGroup 2 (framed (take count outbox.now.messages)) (is_err result) (lane streams.old stream) (lane streams.new stream) }
+    ensures put { PutsGroup 2 (take count outbox.now.messages) (is_err result) (lane streams.old stream) (lane streams.new stream) }
 {
     add_first(streams, outbox, count);
     streams.hold_spellings();
@@ -86,12 +86,12 @@ fn put_several<W: Wire>(
 /// Makes a group of the first `count` messages.
 fn add_first<W: Wire>(streams: &mut Streams<W>, outbox: &Outbox, count: u32)
     requires layout { outbox.now.shape ≡ streams.old.shape }
-    requires format { streams.old.format ≡ 2 }
-    requires few { count ≤ 16 }
+    requires format { streams.old.format ≡ GROUP_FORMAT }
+    requires few { count ≤ MOST_GROUP }
     requires there { count ≤ length outbox.now.messages }
     requires made { Each (λ m. 1 ≤ m.head.version) outbox.now.messages }
     requires none_made { streams.old.making ≡ [] }
-    ensures { streams.new ≡ record streams.old { making = framed (take count outbox.now.messages) } }
+    ensures { streams.new ≡ record streams.old { making = take count outbox.now.messages } }
 {
     for i in 0..count {
         streams.add(outbox.nth(i), outbox.nth_bytes(i));

@@ -1,6 +1,6 @@
 //! The source's half of a migration, and what may be asked of it.
 
-ghost use Rattle.std.specs.Prelude.{◌≡◌, ◌≤◌, ◌<◌, ◌^◌, ◌-◌, ℕ, true, false, IfOk, IfErr, length, slice_get, get_or, if◌then◌else◌};
+ghost use Rattle.std.specs.Prelude.{◌≡◌, ◌≤◌, ◌<◌, ◌-◌, true, false, IfOk, IfErr, length, slice_get, get_or, if◌then◌else◌};
 ghost use Rattle.xv_base.specs.Units.{units};
 ghost use Rattle.xv_model.specs.Job.{Job};
 ghost use Rattle.xv_model.specs.View.{View, no_disk, number, in_queue, side};
@@ -13,7 +13,7 @@ use crate::disk::DiskCopy;
 use crate::parts::Parts;
 use std::alloc::Global;
 use std::marker::Model;
-use xv_base::{Config, GuestId, Layout, Side, UnitId, Waiting};
+use xv_base::{Config, GuestId, Layout, MOST_GUESTS, Side, UnitId, Waiting};
 use xv_credit::Credit;
 use xv_device::UnitDevice;
 use xv_dirty::DirtySet;
@@ -59,7 +59,7 @@ impl<S: UnitDevice> SourceHalf<S> {
     ) -> Result<SourceHalf<S>, S>
         requires layout { (S.told device).shape ≡ layout.now }
         requires limits { AreLimits config.now }
-        requires few { guests ≤ 16 }
+        requires few { guests ≤ MOST_GUESTS }
         ensures half { IfOk result (λ half. half ≡ fresh layout.now config.now (S.told device) (S.faults device)) }
         ensures back { IfErr result (λ back. back ≡ device) }
     {

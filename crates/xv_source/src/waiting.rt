@@ -1,16 +1,16 @@
 //! What the half's own calls wait for.
 
-ghost use Rattle.std.specs.Prelude.{◌≡◌, ◌<◌, ◌&&◌, ◌||◌, ◌==◌, not, nat_lt, nat_le, true, false, length, map, if◌then◌else◌};
+ghost use Rattle.std.specs.Prelude.{◌≡◌, ◌<◌, ◌&&◌, ◌||◌, ◌==◌, not, nat_lt, nat_le, true, false, length, map, IfSome, if◌then◌else◌};
 ghost use Rattle.xv_model.specs.Job.{Job};
 ghost use Rattle.xv_model.specs.View.{View, is_empty_set, members, all_copied_by, queues_empty};
 ghost use Rattle.xv_model.specs.Wait.{unless, wait, is_full};
 ghost use Rattle.xv_source.specs.Half.{IsSourceOf};
 ghost use Rattle.xv_source.specs.Step.{Allows, is_of_source};
-ghost use Rattle.xv_source.specs.Waits.{own_wait, is_asked};
+ghost use Rattle.xv_source.specs.Waits.{own_wait, is_asked, judges};
 ghost use Rattle.xv_base.specs.declared.event.Event.TheVariants.{Begin, Read, Advance, Release, Round, Page, Send, Stun};
 
 use crate::source::SourceHalf;
-use xv_base::{Event, Why};
+use xv_base::{Event, GROUP_FORMAT, Why};
 use xv_device::UnitDevice;
 
 /// Waits for what a condition names where it holds, and else as a later one says.
@@ -25,7 +25,8 @@ impl<S: UnitDevice> SourceHalf<S> {
     /// round may begin beside the copy.
     pub fn waits(&self, event: Event, beside: bool) -> Option<Why>
         requires { is_of_source (length self.now.disks) event ≡ true }
-        ensures { (job : Job) (v : View) → Allows job v event self.now → is_asked v.phase event ≡ true → beside ≡ (job.format == 2) → result ≡ wait job v event false }
+        ensures exactly { (job : Job) (v : View) → Allows job v event self.now → is_asked v.phase event ≡ true → beside ≡ (job.format == GROUP_FORMAT) → result ≡ wait job v event false }
+        ensures own { IfSome result (λ why. judges event why ≡ true) }
     {
         self.own_waits(event, beside)
     }

@@ -2,7 +2,8 @@
 use Rattle.std.proofs.Common.{◌≡◌, ℕ, ◌+◌, ◌-◌, ◌*◌, ◌<◌, ◌≤◌, List, [], ◌∷◌, ◌++◌, length, drop, map, sym, ap, ◌∙◌, arith, refl, subst, Bool, true, false, Option, Some, None, Result, Ok, Err, length-append}
 use lib.Count.{ones}
 use Rattle.std.specs.Prelude.{if◌then◌else◌}
-use Rattle.std.proofs.lemmas.List.{append-nil, map-append, length-map}
+use Rattle.std.proofs.lemmas.List.{append-nil, map-append}
+use Rattle.std.proofs.lemmas.Option.{none-some}
 use Rattle.xv_base.specs.declared.unit.Failed.{Failed}
 use Rattle.xv_base.specs.Layout.{IsGood}
 use Rattle.xv_frame.specs.Fields.{word_at}
@@ -64,6 +65,7 @@ ack-failed e old new have count w t u f g h le fills =
       seen = record {
         counts = ap (λ b. map count_of (frames_in any_shape b)) taken.moved;
         answer = tt;
+        none = tt;
         in_range = tt;
         gathered = tt;
         kept = taken.moved;
@@ -86,6 +88,7 @@ ack-none old new have count w t u f g h le fills few =
       seen = record {
         counts = ap (λ b. map count_of (frames_in any_shape b)) taken.moved ∙ ap (map count_of) e ∙ sym (ap (λ fs. drop 1 (map count_of fs)) e);
         answer = sym (ap (λ fs. first_count (map count_of fs)) e);
+        none = λ no. ap (map count_of) e;
         in_range = tt;
         gathered = empty-list new (taken.whole refl ∙ ap front_size e);
         kept = tt;
@@ -136,6 +139,7 @@ ack-some old new have count w t u f g h le fills many =
             seen = record {
               counts = ap (map count_of) h'.behind ∙ sym (ap (λ fs. drop 1 (map count_of fs)) h'.list);
               answer = ap Some read ∙ sym (ap (λ fs. first_count (map count_of fs)) h'.list);
+              none = λ no. absurd (none-some _ (sym no));
               in_range = (subst (λ k. 1 ≤ k) (sym read) h'.frame.0, subst (λ k. k ≤ 1024) (sym read) h'.frame.1);
               gathered = refl;
               kept = tt;
@@ -144,10 +148,6 @@ ack-some old new have count w t u f g h le fills many =
           },
           h'.some,
         )
-
--- as many counts as are counted
-pub counts-counted : (bytes : List ℕ) (t : Told) (w a : ℕ) → IsBack bytes t w → w ≡ length (returned bytes t a).counts
-counts-counted bytes t w a h = h.counted ∙ sym (length-map (frames_in any_shape (bytes ++ t.transit)) count_of)
 
 pub few-acks : (bytes : List ℕ) (t : Told) (w : ℕ) → IsBack bytes t w → w * 24 ≤ length bytes + length t.transit
 few-acks bytes t w h = few-frames any_shape 0 t (back_lane bytes w) h

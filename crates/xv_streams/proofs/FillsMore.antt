@@ -1,24 +1,20 @@
 -- The bytes gathered after one take more.
 use Rattle.std.proofs.Common.{◌≡◌, ℕ, ◌+◌, ◌-◌, ◌≤◌, List, ◌++◌, length, take, drop, sym, ap, ◌∙◌, arith, append_assoc}
-use Rattle.std.proofs.lemmas.List.{take_at, length-take}
+use Rattle.std.proofs.lemmas.List.{take-append-le, length-take}
 use Rattle.std.proofs.Math.Seq.{take-add, take-append-add}
 use borrow.Rule.Slice.PartMut.{put_mid, post_of}
 
--- the buffer holds what was gathered before, then the next bytes
+-- the buffer holds what was gathered before, then the next bytes; what is behind them is not asked for
 pub gathers-more : (have count want m : ℕ) (start now into transit left : List ℕ)
-    → have ≤ count → count + m ≤ want → want ≤ length now → m ≤ length left
+    → have ≤ count → count + m ≤ want → want ≤ length now → m ≤ length into
     → take count now ≡ take have start ++ take (count - have) transit → left ≡ drop (count - have) transit
-    → into ≡ take m left ++ drop m (take (want - count) (drop count now))
+    → take m into ≡ take m left
     → take (count + m) (put_mid count (want - count) now into) ≡ take have start ++ take (count + m - have) transit
-gathers-more have count want m start now into transit left h below room there was l gives =
+gathers-more have count want m start now into transit left h below room long_enough was l gives =
     let n : ℕ = count - have in
     let long : length (take count now) ≡ count = omega (arith, length-take count now) in
     let written : List ℕ = into ++ post_of count (want - count) now in
-    let front : length (take m left) ≡ m = omega (arith, length-take m left) in
-    let first : take m written ≡ take m left =
-    ap (λ xs. take m (xs ++ post_of count (want - count) now)) gives
-    ∙ ap (take m) (append_assoc (take m left) (drop m (take (want - count) (drop count now))) (post_of count (want - count) now))
-    ∙ take_at (take m left) (drop m (take (want - count) (drop count now)) ++ post_of count (want - count) now) m front in
+    let first : take m written ≡ take m left = take-append-le m into (post_of count (want - count) now) long_enough ∙ gives in
     let split : take (count + m) (take count now ++ written) ≡ take count now ++ take m written =
     ap (λ k. take (k + m) (take count now ++ written)) (sym long) ∙ take-append-add (take count now) written m in
     let more : count + m - have ≡ n + m = omega arith in

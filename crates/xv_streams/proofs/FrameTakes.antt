@@ -11,9 +11,9 @@ use Rattle.xv_frame.specs.Size.{frame_size}
 use Rattle.xv_frame.proofs.Accepted.{length-spelled}
 use Rattle.xv_frame.proofs.Faultless.{size-at-front}
 use Rattle.xv_wire.specs.Told.{Told}
-use Rattle.xv_streams.specs.Taking.{TakesMade, Taking}
+use Rattle.xv_streams.specs.Taking.{TakesMade}
 use Rattle.xv_streams.specs.Lanes.{front_size, wanted, IsLane, FrameTaken}
-use Rattle.xv_streams.proofs.Takes.{failed-of-more, go-on, takes-after}
+use Rattle.xv_streams.proofs.Takes.{Taking, failed-of-more, go-on, takes-after}
 
 -- bytes gathered until there are so many
 pub record Fills (old new : List ℕ) (have count want : ℕ) (failed : Bool) (before later : Told) (faults more : ℕ) : Type 0 where

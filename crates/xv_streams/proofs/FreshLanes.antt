@@ -10,9 +10,6 @@ use Rattle.xv_streams.specs.Streamed.{LaneSeen, seen_lanes, IsLaneOf, AreLanesOf
 abbrev pub fresh : ℕ → Gathered
 fresh r = record { bytes = []; room = r; waiting = 0 }
 
-empty-is : (s : Shape) (format r : ℕ) (bytes : List ℕ) → bytes ≡ [] → frames_in s bytes ≡ []
-empty-is s format r bytes e = ap (frames_in s) e
-
 fresh-is : (s : Shape) (format r : ℕ) (told : Told) → told.transit ≡ [] → r ≡ frame_room s format → IsLaneOf s format told (fresh r)
 fresh-is s format r told none e =
     subst (λ (xs : List ℕ). IsLaneOf s format (record told { transit = xs }) (fresh r)) (sym none)
@@ -34,3 +31,9 @@ module _ {A : Type 0} (t : A → Told) (f : A → ℕ) (s : Shape) (format r : �
   wires-seen [] (l ∷ ls) h = absurd h
   wires-seen (w ∷ ws) [] h = absurd h
   wires-seen (w ∷ ws) (l ∷ ls) h = ap (λ xs. t w ∷ xs) (wires-seen ws ls h.1)
+
+  pub faults-seen : (ws : List A) (ls : List Gathered) → AreLanesOf t s format ws ls → map f ws ≡ map (λ (l : LaneSeen). l.faults) (seen_lanes t f s ws ls)
+  faults-seen [] [] h = refl
+  faults-seen [] (l ∷ ls) h = absurd h
+  faults-seen (w ∷ ws) [] h = absurd h
+  faults-seen (w ∷ ws) (l ∷ ls) h = ap (λ xs. f w ∷ xs) (faults-seen ws ls h.1)

@@ -129,11 +129,3 @@ whole-by s format (f ∷ others) new l t u good h is same long some = record { f
 pub whole-frame : (s : Shape) (format : ℕ) (new : List ℕ) (l : Gathered) (t u : Told) (f g : ℕ) → IsGood s → IsLaneOf s format t l → FrameTaken s l.bytes new false t u f g → 0 < length new
     → WholeFrame s format (frames_in s (l.bytes ++ t.transit)) new l u
 whole-frame s format new l t u f g good h taken some = whole-by s format (frames_in s (l.bytes ++ t.transit)) new l t u good h refl taken.moved (taken.whole refl) some
-
--- there was none
-pub no-frame : (s : Shape) (new : List ℕ) (l : Gathered) (t u : Told) (f g : ℕ) → FrameTaken s l.bytes new false t u f g → length new ≡ 0 → frames_in s (l.bytes ++ t.transit) ≡ []
-no-frame s new l t u f g taken none = by (frames_in s (l.bytes ++ t.transit)) (omega (arith, taken.whole refl))
-  where
-    by : (fs : List Frame) → front_size fs ≡ 0 → fs ≡ []
-    by [] e = refl
-    by (x ∷ fs) e = absurd (omega (arith, length-spelled x))

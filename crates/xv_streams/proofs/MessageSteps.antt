@@ -1,7 +1,7 @@
 -- A message taken off a lane of unit frames.
-use Rattle.std.proofs.Common.{◌≡◌, ℕ, ◌+◌, ◌-◌, ◌<◌, ◌≤◌, List, [], ◌∷◌, ◌++◌, length, take, drop, map, sym, ap, ◌∙◌, arith, refl, subst, Bool, true, false, Some, None, Ok, Err, length-append}
+use Rattle.std.proofs.Common.{◌≡◌, ℕ, ◌+◌, ◌-◌, ◌<◌, ◌≤◌, List, [], ◌∷◌, ◌++◌, length, take, drop, map, sym, ap, ◌∙◌, arith, refl, subst, Bool, false, Some, Ok, length-append}
 use Rattle.std.proofs.lemmas.List.{append-nil, take_at, drop_at}
-use Rattle.xv_base.specs.declared.unit.Failed.{Failed}
+use Rattle.std.proofs.lemmas.Option.{none-some}
 use Rattle.xv_base.specs.declared.operation.UnitHead.{UnitHead}
 use Rattle.xv_base.specs.Units.{Shape, units, size, max_size}
 use Rattle.xv_base.specs.Layout.{IsGood}
@@ -18,7 +18,7 @@ use Rattle.xv_streams.specs.Gathered.{Gathered}
 use Rattle.xv_streams.specs.Taking.{TakesMade}
 use Rattle.xv_streams.specs.Lanes.{wanted, FrameTaken}
 use Rattle.xv_streams.specs.Streamed.{messages_of, IsLaneOf, seen_lane, MessageTaken, first_group, head_of_first, content_of_first}
-use Rattle.xv_streams.proofs.LaneSteps.{Whole, whole-frame, no-frame}
+use Rattle.xv_streams.proofs.LaneSteps.{Whole, whole-frame}
 
 -- the takes by what is left in transit
 pub made-seen : (s : Shape) (old new : List ℕ) (failed : Bool) (t u : Told) (f g : ℕ) → FrameTaken s old new failed t u f g
@@ -26,37 +26,6 @@ pub made-seen : (s : Shape) (old new : List ℕ) (failed : Bool) (t u : Told) (f
 made-seen s old new failed t u f g h =
     let same : length new - length old ≡ length t.transit - length u.transit = omega (arith, ap length h.moved, length-append new u.transit, length-append old t.transit, h.grown) in
     subst (λ n. TakesMade n failed (wanted (frames_in s (old ++ t.transit)) (length old)) t u f g) same h.made
-
-pub receive-failed : (s : Shape) (e : Failed) (content : List ℕ) (l m : Gathered) (t u : Told) (f g : ℕ) → m ≡ record l { bytes = m.bytes } → FrameTaken s l.bytes m.bytes true t u f g
-    → MessageTaken s (Err e) content (seen_lane s t f l) (seen_lane s u g m)
-receive-failed s e content l m t u f g is h = record {
-  groups = ap (λ b. map messages_of (frames_in s b)) h.moved;
-  answer = tt;
-  content_is = tt;
-  in_range = tt;
-  gathered = tt;
-  kept = h.moved;
-  made = made-seen s l.bytes m.bytes true t u f g h;
-}
-
-pub none-left : (b : List ℕ) → length b ≡ 0 → b ≡ []
-none-left [] e = refl
-none-left (x ∷ b) e = absurd (omega arith)
-
-pub receive-none : (s : Shape) (content : List ℕ) (l m : Gathered) (t u : Told) (f g : ℕ) → FrameTaken s l.bytes m.bytes false t u f g → length m.bytes ≡ 0
-    → length content ≡ length (content_of_first (first_group (map messages_of (frames_in s (l.bytes ++ t.transit)))))
-    → MessageTaken s (Ok None) content (seen_lane s t f l) (seen_lane s u g m)
-receive-none s content l m t u f g h none long =
-    let empty : frames_in s (l.bytes ++ t.transit) ≡ [] = no-frame s m.bytes l t u f g h none in
-    record {
-      groups = ap (λ b. map messages_of (frames_in s b)) h.moved ∙ ap (map messages_of) empty ∙ sym (ap (λ fs. drop 1 (map messages_of fs)) empty);
-      answer = sym (ap (λ fs. head_of_first (first_group (map messages_of fs))) empty);
-      content_is = none-left content (long ∙ ap (λ fs. length (content_of_first (first_group (map messages_of fs)))) empty) ∙ sym (ap (λ fs. content_of_first (first_group (map messages_of fs))) empty);
-      in_range = tt;
-      gathered = none-left m.bytes none;
-      kept = tt;
-      made = made-seen s l.bytes m.bytes false t u f g h;
-    }
 
 -- the first frame is a message
 pub record FirstMessage (s : Shape) (l : Gathered) (t u : Told) (new : List ℕ) : Type 0 where
@@ -98,6 +67,7 @@ pub receive-some : (s : Shape) (head : UnitHead) (content : List ℕ) (l : Gathe
 receive-some s head content l t u new f g first h e c = record {
   groups = ap (map messages_of) first.behind ∙ sym (ap (λ fs. drop 1 (map messages_of fs)) first.list);
   answer = ap Some e ∙ sym (ap (λ fs. head_of_first (first_group (map messages_of fs))) first.list);
+  none = λ no. absurd (none-some _ (sym no));
   content_is = c ∙ sym (ap (λ fs. content_of_first (first_group (map messages_of fs))) first.list);
   in_range = (subst (λ (k : UnitHead). k.unit.0 < units s) (sym e) first.good.unit_in, ap length c ∙ first.good.whole ∙ ap (λ (k : UnitHead). size s k.unit.0) (sym e));
   gathered = refl;

@@ -97,9 +97,6 @@ framed spell old into held items count len e l h n =
     let whole : held ≡ into = h ∙ take_at into (drop (length into) items) len n in
     ap (take count) (whole ∙ e) ∙ take_at spell (drop count old) count l
 
-pub framed-fits : (spell old into : List ℕ) (count : ℕ) → into ≡ spell ++ drop count old → length spell ≡ count → count ≤ length into
-framed-fits spell old into count e l = omega (arith, ap length e, length-append spell (drop count old))
-
 pub length-unit : (h : UnitHead) (content : List ℕ) → length (spelled (UnitFrame (message h content))) ≡ 24 + length content
 length-unit h content = length-append (unit_head h (length content)) content ∙ ap (λ k. k + length content) (length-unit-head h (length content))
 

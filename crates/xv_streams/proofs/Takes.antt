@@ -7,7 +7,13 @@ use Rattle.std.proofs.lemmas.List.{drop-drop}
 use Rattle.xv_wire.specs.Wire.{TakeBytes, Counted, left_past, left_after, is_inside, met_past, counted_after, is_planned}
 use Rattle.xv_wire.specs.Told.{Told, told_after, CallMade}
 use Rattle.xv_wire.proofs.Passing.{left-add, inside-add, left-within, inside-within}
-use Rattle.xv_streams.specs.Taking.{first_left, AreOfOnePiece, TakesMade, Taking}
+use Rattle.xv_streams.specs.Taking.{first_left, AreOfOnePiece, TakesMade}
+
+-- takes that go on: so many bytes were taken of those that are wanted
+pub record Taking (n want : ℕ) (before now : Told) (faults more : ℕ) : Type 0 where
+  pub told : now ≡ told_after (TakeBytes n) false before
+  pub planned : IfSome before.counted (λ c. AreOfOnePiece want before c → 0 < n → is_planned (TakeBytes 0) before.transit c ≡ false)
+  pub never_falls : faults ≤ more
 
 positive : (n : ℕ) → 0 < n → eqb n 0 ≡ false
 positive n h = grind (arith, eqb_tells n 0)
@@ -60,14 +66,6 @@ none-counted (Some c) = refl
 pub told-none : (t : Told) → told_after (TakeBytes 0) false t ≡ t
 told-none t = λ i. record { capacity = t.capacity; transit = t.transit; counted = none-counted t.counted i }
 
--- nothing is taken yet
-pub taking-start : (want : ℕ) (t : Told) (f : ℕ) → Taking 0 want t t f f
-taking-start want t f = record { told = sym (told-none t); planned = none-yet t.counted; never_falls = omega arith }
-  where
-    none-yet : (o : Option Counted) → IfSome o (λ c. AreOfOnePiece want t c → 0 < 0 → is_planned (TakeBytes 0) t.transit c ≡ false)
-    none-yet None = tt
-    none-yet (Some c) = λ p h. absurd (omega arith)
-
 -- once the first of the bytes of one piece are taken, no take of the others fails by the plan
 not-met : (b x m : Bool) → m ≡ true → ((b && not m) && x) ≡ false
 not-met true x m e = ap (λ k. (not k) && x) e
@@ -118,11 +116,6 @@ whether m n want b t now f g h below there p = elim (cases_lt 0 n) [
       (first m b t now (zero-is n t now h.told none) p)
 ]
 
-with-want : (want : ℕ) (b : Bool) (t : Told) → 0 < want → IfSome t.counted (λ c. AreOfOnePiece want t c → b ≡ is_planned (TakeBytes 0) t.transit c)
-    → IfSome t.counted (λ c. AreOfOnePiece want t c → b ≡ (nat_lt 0 want && is_planned (TakeBytes 0) t.transit c))
-with-want want b t some h = map-some (λ c. AreOfOnePiece want t c → b ≡ is_planned (TakeBytes 0) t.transit c) (λ c. AreOfOnePiece want t c → b ≡ (nat_lt 0 want && is_planned (TakeBytes 0) t.transit c)) t.counted
-    (λ c e. λ one. e one ∙ ap (λ k. k && is_planned (TakeBytes 0) t.transit c) (sym (lt-ltb 0 want some))) h
-
 -- a take that moves bytes goes on
 pub taking-more : (m n want : ℕ) (t now next : Told) (f g k : ℕ) → Taking n want t now f g → n < want → n ≤ length t.transit → CallMade (TakeBytes m) false now next g k → Taking (n + m) want t next f k
 taking-more m n want t now next f g k h below there made = record {
@@ -130,32 +123,6 @@ taking-more m n want t now next f g k h below there made = record {
   planned = map-some (λ c. AreOfOnePiece want t c → false ≡ is_planned (TakeBytes 0) t.transit c) (λ c. AreOfOnePiece want t c → 0 < n + m → is_planned (TakeBytes 0) t.transit c ≡ false) t.counted
       (λ c e. λ one some. sym (e one)) (whether m n want false t now f g h below there made.planned);
   never_falls = omega (arith, h.never_falls, made.caused.never_falls);
-}
-
--- a take that moves none ends it
-pub taking-ends : (n want : ℕ) (b : Bool) (t now next : Told) (f g k : ℕ) → Taking n want t now f g → n < want → n ≤ length t.transit → CallMade (TakeBytes 0) b now next g k → TakesMade n b want t next f k
-taking-ends n want b t now next f g k h below there made = record {
-  told = made.told ∙ ap (told_after (TakeBytes 0) b) h.told ∙ told-add n 0 b t ∙ (let e : n + 0 ≡ n = omega arith in ap (λ j. told_after (TakeBytes j) b t) e);
-  planned = with-want want b t (omega arith) (whether 0 n want b t now f g h below there made.planned);
-  early = λ _. below;
-  caused = record { cause = omega (arith, h.never_falls, made.caused.cause); never_falls = omega (arith, h.never_falls, made.caused.never_falls) };
-}
-
-false-and : (b : Bool) → false ≡ (false && b)
-false-and b = refl
-
--- all that was wanted
-pub taking-enough : (n want : ℕ) (t now : Told) (f g : ℕ) → Taking n want t now f g → n ≡ want → TakesMade n false want t now f g
-taking-enough n want t now f g h e = record {
-  told = h.told;
-  planned = elim (cases_lt 0 want) [
-    | inl some ↦ with-want want false t some (map-some (λ c. AreOfOnePiece want t c → 0 < n → is_planned (TakeBytes 0) t.transit c ≡ false) (λ c. AreOfOnePiece want t c → false ≡ is_planned (TakeBytes 0) t.transit c) t.counted
-        (λ c p. λ one. sym (p one (omega arith))) h.planned)
-    | inr none ↦ map-some (λ c. AreOfOnePiece want t c → 0 < n → is_planned (TakeBytes 0) t.transit c ≡ false) (λ c. AreOfOnePiece want t c → false ≡ (nat_lt 0 want && is_planned (TakeBytes 0) t.transit c)) t.counted
-        (λ c p. λ one. ap (λ k. k && is_planned (TakeBytes 0) t.transit c) (sym (le-ltb 0 want none))) h.planned
-  ];
-  early = λ is. absurd (false≢true is);
-  caused = record { cause = omega (arith, h.never_falls); never_falls = h.never_falls };
 }
 
 -- some takes that had enough, as a beginning of more

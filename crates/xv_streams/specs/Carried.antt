@@ -1,24 +1,26 @@
 -- What the bytes of a stream are: the spellings of the frames that carry its groups.
 use Rattle.std.specs.Prelude.{◌≡◌, ℕ, ◌+◌, ◌*◌, ◌≤◌, ◌==◌, List, [], ◌∷◌, ◌++◌, length, map, if◌then◌else◌}
 use Rattle.std.specs.List.{flat_map, sum_by}
+use Rattle.xv_base.specs.declared.limits.TheConstants.{MOST_GROUP, SINGLE_FORMAT}
 use Rattle.xv_base.specs.Units.{Shape, max_size}
+use Rattle.xv_frame.specs.declared.codes.TheConstants.{HEAD_SIZE, ENTRY_HEAD_SIZE}
 use Rattle.xv_frame.specs.Frame.{Message, Frame, UnitFrame, GroupFrame, Each, IsFrame, IsMessage, spelled, all_spelled}
 use Rattle.xv_streams.specs.Streamed.{LaneSeen}
 
 -- the frame that carries a group, which in format 1 is of one message, and the frames that carry some
 abbrev pub frame_of : ℕ → List Message → Frame
 frame_of format [] = GroupFrame []
-frame_of format (m ∷ ms) = if format == 1 then UnitFrame m else GroupFrame (m ∷ ms)
+frame_of format (m ∷ ms) = if format == SINGLE_FORMAT then UnitFrame m else GroupFrame (m ∷ ms)
 
 abbrev pub frames_of : ℕ → List (List Message) → List Frame
 frames_of format groups = map (frame_of format) groups
 
 -- how many messages a group has at most, and how many bytes of its frame there are to each at most
 abbrev pub most_messages : ℕ → ℕ
-most_messages format = if format == 1 then 1 else 16
+most_messages format = if format == SINGLE_FORMAT then 1 else MOST_GROUP
 
 abbrev pub most_bytes : Shape → ℕ → ℕ
-most_bytes s format = if format == 1 then 24 + max_size s else 44 + max_size s
+most_bytes s format = if format == SINGLE_FORMAT then HEAD_SIZE + max_size s else HEAD_SIZE + ENTRY_HEAD_SIZE + max_size s
 
 -- the messages on a stream
 abbrev pub joined : List (List Message) → List Message
@@ -34,8 +36,8 @@ pub record IsCarried (s : Shape) (format : ℕ) (l : LaneSeen) : Type 0 where
   pub bytes : length l.gathered + length l.wire.transit ≡ sum_by (λ f. length (spelled f)) (frames_of format l.groups)
   pub few_bytes : length l.gathered + length l.wire.transit ≤ length (joined l.groups) * most_bytes s format
 
--- a group that is being made has at most 16 messages; its frame, once there is one, has at most so many bytes for each
+-- a group that is being made has at most `MOST_GROUP` messages; its frame, once there is one, has at most so many bytes for each
 pub record IsMade (s : Shape) (messages : List Message) : Type 0 where
-  pub few : length messages ≤ 16
+  pub few : length messages ≤ MOST_GROUP
   pub each : Each (IsMessage s) messages
-  pub few_bytes : 1 ≤ length messages → length (spelled (GroupFrame messages)) ≤ length messages * (44 + max_size s)
+  pub few_bytes : 1 ≤ length messages → length (spelled (GroupFrame messages)) ≤ length messages * (HEAD_SIZE + ENTRY_HEAD_SIZE + max_size s)

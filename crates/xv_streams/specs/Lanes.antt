@@ -1,6 +1,7 @@
 -- The frames of a lane: gathered bytes of the first, then what is in transit.
 use Rattle.std.specs.Prelude.{◌≡◌, ℕ, ◌-◌, ◌≤◌, Bool, false, List, [], ◌∷◌, ◌++◌, length}
 use Rattle.xv_base.specs.Units.{Shape}
+use Rattle.xv_frame.specs.declared.codes.TheConstants.{HEAD_SIZE}
 use Rattle.xv_frame.specs.Frame.{Frame, Each, IsFrame, spelled, all_spelled}
 use Rattle.xv_frame.specs.Reading.{frames_in}
 use Rattle.xv_wire.specs.Told.{Told}
@@ -12,7 +13,7 @@ front_size [] = 0
 front_size (f ∷ fs) = length (spelled f)
 
 abbrev pub wanted : List Frame → ℕ → ℕ
-wanted [] have = 24
+wanted [] have = HEAD_SIZE
 wanted (f ∷ fs) have = length (spelled f) - have
 
 -- the bytes are the spellings of frames, of which the first may be gathered in part, and each fits the room

@@ -1,7 +1,9 @@
 -- What is seen of the wire back.
 use Rattle.std.specs.Prelude.{◌≡◌, ℕ, ◌≤◌, List, [], ◌∷◌, ◌++◌, ◌+◌, ◌-◌, ◌*◌, length, map, drop, Bool, true, false, Option, Some, None, Result, IfOk, IfErr, IfSome, is_err, if◌then◌else◌}
+use Rattle.xv_base.specs.declared.limits.TheConstants.{MOST_CREDIT}
 use Rattle.xv_base.specs.Units.{Shape, shape_of}
 use Rattle.xv_base.specs.declared.unit.Failed.{Failed}
+use Rattle.xv_frame.specs.declared.codes.TheConstants.{HEAD_SIZE}
 use Rattle.xv_frame.specs.Frame.{Frame, UnitFrame, AckFrame, GroupFrame, Each, spelled, all_spelled}
 use Rattle.xv_frame.specs.Reading.{frames_in}
 use Rattle.xv_wire.specs.Wire.{PutBytes}
@@ -38,7 +40,7 @@ IsBack gathered told waiting = IsLaneOf any_shape 0 told (back_lane gathered wai
 
 -- how many bytes a receipt wants of the first acknowledgement
 abbrev pub ack_left : ℕ → ℕ
-ack_left have = 24 - have
+ack_left have = HEAD_SIZE - have
 
 -- an acknowledgement was put, or the put failed
 pub record AckPut (count : ℕ) (failed : Bool) (old new : Returned) : Type 0 where
@@ -56,16 +58,17 @@ first_count (n ∷ ns) = Some n
 pub record AckTaken (result : Result (Option ℕ) Failed) (old new : Returned) : Type 0 where
   pub counts : new.counts ≡ (if is_err result then old.counts else drop 1 old.counts)
   pub answer : IfOk result (λ it. it ≡ first_count old.counts)
-  pub in_range : IfOk result (λ it. IfSome it (λ n. (1 ≤ n) × (n ≤ 1024)))
+  pub none : IfOk result (λ it. it ≡ None → old.counts ≡ [])
+  pub in_range : IfOk result (λ it. IfSome it (λ n. (1 ≤ n) × (n ≤ MOST_CREDIT)))
   pub gathered : IfOk result (λ it. new.gathered ≡ [])
   pub kept : IfErr result (λ e. new.gathered ++ new.wire.transit ≡ old.gathered ++ old.wire.transit)
   pub made : TakesMade (length old.wire.transit - length new.wire.transit) (is_err result) (ack_left (length old.gathered)) old.wire new.wire old.faults new.faults
 
--- the bytes gathered and those in transit are exactly the spellings of the acknowledgements, of 24 bytes each
+-- the bytes gathered and those in transit are exactly the spellings of the acknowledgements, each a head alone
 pub record AreCarried (r : Returned) : Type 0 where
   pub stand : r.gathered ++ r.wire.transit ≡ all_spelled (map AckFrame r.counts)
-  pub counts : Each (λ n. (1 ≤ n) × (n ≤ 1024)) r.counts
-  pub bytes : length r.gathered + length r.wire.transit ≡ 24 * length r.counts
+  pub counts : Each (λ n. (1 ≤ n) × (n ≤ MOST_CREDIT)) r.counts
+  pub bytes : length r.gathered + length r.wire.transit ≡ HEAD_SIZE * length r.counts
 
 -- the first count was taken off, or a take failed and what is gathered stays, whatever was answered
 pub record TakesFirst (failed : Bool) (old new : Returned) : Type 0 where

@@ -1,9 +1,12 @@
 -- What is seen of some streams.
 use Rattle.std.specs.Prelude.{◌≡◌, ℕ, ◌+◌, ◌*◌, ◌-◌, ◌<◌, ◌≤◌, ◌==◌, Bool, List, [], ◌∷◌, ◌++◌, length, map, set, drop, get_or, Option, Some, None, Result, IfOk, IfErr, IfSome, is_err, ⊤, if◌then◌else◌}
+pub use Rattle.xv_base.specs.Message.{no_message}
 use Rattle.xv_base.specs.declared.operation.UnitHead.{UnitHead}
 use Rattle.xv_base.specs.declared.unit.Failed.{Failed}
+use Rattle.xv_base.specs.declared.limits.TheConstants.{MOST_GROUP, SINGLE_FORMAT, GROUP_FORMAT}
 use Rattle.xv_base.specs.Units.{Shape, units, size, max_size}
-use Rattle.xv_frame.specs.Frame.{Message, message, IsMessage, Frame, UnitFrame, AckFrame, GroupFrame, Each, spelled}
+use Rattle.xv_frame.specs.declared.codes.TheConstants.{HEAD_SIZE, ENTRY_HEAD_SIZE}
+use Rattle.xv_frame.specs.Frame.{Message, IsMessage, Frame, UnitFrame, AckFrame, GroupFrame, Each, spelled}
 use Rattle.xv_frame.specs.Reading.{frames_in}
 use Rattle.xv_wire.specs.Wire.{PutBytes}
 use Rattle.xv_wire.specs.Told.{Told, CallMade}
@@ -34,13 +37,13 @@ messages_of (AckFrame count) = []
 messages_of (GroupFrame messages) = messages
 
 abbrev pub format_of : Frame → ℕ
-format_of (UnitFrame m) = 1
+format_of (UnitFrame m) = SINGLE_FORMAT
 format_of (AckFrame count) = 0
-format_of (GroupFrame messages) = 2
+format_of (GroupFrame messages) = GROUP_FORMAT
 
 -- how many bytes the greatest frame has
 abbrev pub frame_room : Shape → ℕ → ℕ
-frame_room s format = if format == 1 then 24 + max_size s else 24 + 16 * (20 + max_size s)
+frame_room s format = if format == SINGLE_FORMAT then HEAD_SIZE + max_size s else HEAD_SIZE + MOST_GROUP * (ENTRY_HEAD_SIZE + max_size s)
 
 abbrev pub seen_lane : Shape → Told → ℕ → Gathered → LaneSeen
 seen_lane s told failed l = record { groups = map messages_of (frames_in s (l.bytes ++ told.transit)); gathered = l.bytes; wire = told; faults = failed }
@@ -99,18 +102,19 @@ pub record FramePut (f : Frame) (failed : Bool) (old new : LaneSeen) : Type 0 wh
 pub record MessageTaken (s : Shape) (result : Result (Option UnitHead) Failed) (content : List ℕ) (old new : LaneSeen) : Type 0 where
   pub groups : new.groups ≡ (if is_err result then old.groups else drop 1 old.groups)
   pub answer : IfOk result (λ it. it ≡ head_of_first (first_group old.groups))
+  pub none : IfOk result (λ it. it ≡ None → old.groups ≡ [])
   pub content_is : IfOk result (λ it. content ≡ content_of_first (first_group old.groups))
   pub in_range : IfOk result (λ it. IfSome it (λ h. (h.unit.0 < units s) × (length content ≡ size s h.unit.0)))
   pub gathered : IfOk result (λ it. new.gathered ≡ [])
   pub kept : IfErr result (λ e. new.gathered ++ new.wire.transit ≡ old.gathered ++ old.wire.transit)
   pub made : TakesMade (length old.wire.transit - length new.wire.transit) (is_err result) (wanted (frames_in s (old.gathered ++ old.wire.transit)) (length old.gathered)) old.wire new.wire old.faults new.faults
 
--- a group was taken off a stream, or there was none, or a take failed, in the same way; it has from 1 to 16 messages
+-- a group was taken off a stream, or there was none, or a take failed, in the same way; it has from 1 to `MOST_GROUP` messages
 pub record GroupTaken (s : Shape) (result : Result ℕ Failed) (old new : LaneSeen) : Type 0 where
   pub groups : new.groups ≡ (if is_err result then old.groups else drop 1 old.groups)
   pub answer : IfOk result (λ n. n ≡ length (first_group old.groups))
   pub none : IfOk result (λ n. n ≡ 0 → old.groups ≡ [])
-  pub few : IfOk result (λ n. n ≤ 16)
+  pub few : IfOk result (λ n. n ≤ MOST_GROUP)
   pub each : IfOk result (λ n. Each (IsMessage s) (first_group old.groups))
   pub gathered : IfOk result (λ n. new.gathered ≡ [])
   pub kept : IfErr result (λ e. new.gathered ++ new.wire.transit ≡ old.gathered ++ old.wire.transit)
@@ -120,10 +124,7 @@ pub record GroupTaken (s : Shape) (result : Result ℕ Failed) (old new : LaneSe
 abbrev pub lent : Bool → LaneSeen → List Message
 lent failed l = if failed then [] else first_group l.groups
 
--- what stands for a message that is not there, and the message at a place
-abbrev pub no_message : Message
-no_message = message (record { unit = record { 0 = 0 }; version = 0; at = 0 }) []
-
+-- the message at a place
 abbrev pub message_at : List Message → ℕ → Message
 message_at messages i = get_or messages i no_message
 

@@ -1,5 +1,5 @@
 -- Some takes of a wire, one after another, seen as one.
-use Rattle.std.specs.Prelude.{◌≡◌, ℕ, ◌<◌, ◌≤◌, Bool, ◌&&◌, true, false, nat_lt, List, [], ◌∷◌, length, IfSome}
+use Rattle.std.specs.Prelude.{◌≡◌, ℕ, ◌<◌, ◌≤◌, Bool, ◌&&◌, true, nat_lt, List, [], ◌∷◌, length, IfSome}
 use Rattle.xv_wire.specs.Wire.{TakeBytes, Counted, is_planned}
 use Rattle.xv_wire.specs.Told.{Told, told_after, Caused}
 
@@ -19,9 +19,3 @@ pub record TakesMade (n : ℕ) (failed : Bool) (want : ℕ) (before later : Told
   pub planned : IfSome before.counted (λ c. AreOfOnePiece want before c → failed ≡ (nat_lt 0 want && is_planned (TakeBytes 0) before.transit c))
   pub early : failed ≡ true → n < want
   pub caused : Caused failed faults more
-
--- takes that go on: so many bytes were taken of those that are wanted
-pub record Taking (n want : ℕ) (before now : Told) (faults more : ℕ) : Type 0 where
-  pub told : now ≡ told_after (TakeBytes n) false before
-  pub planned : IfSome before.counted (λ c. AreOfOnePiece want before c → 0 < n → is_planned (TakeBytes 0) before.transit c ≡ false)
-  pub never_falls : faults ≤ more

@@ -8,6 +8,7 @@ use crate::framing::fill_frame;
 use std::alloc::Global;
 use std::marker::Model;
 use xv_base::{Failed, Layout, NoMemory};
+use xv_frame::HEAD_SIZE;
 use xv_wire::Wire;
 
 /// The bytes gathered of a frame that is not taken off yet, in a buffer for the greatest one.
@@ -79,7 +80,7 @@ impl Lane {
     /// Gathers the first frame that is on the way, and answers whether there is one.
     pub fn gather<W: Wire>(&mut self, wire: &mut W, layout: &Layout) -> Result<bool, Failed>
         requires good { IsGood layout.now }
-        requires room { 24 ≤ self.old.room }
+        requires room { HEAD_SIZE ≤ self.old.room }
         requires lane { IsLane layout.now self.old.room self.old.bytes (W.told wire.old).transit }
         ensures taken { FrameTaken layout.now self.old.bytes self.new.bytes (is_err result) (W.told wire.old) (W.told wire.new) (W.faults wire.old) (W.faults wire.new) }
         ensures some { IfOk result (λ whole. whole ≡ nat_lt 0 (length self.new.bytes)) }

@@ -10,8 +10,8 @@ ghost use Rattle.xv_streams.specs.Streamed.{no_message, message_at};
 
 use std::alloc::Global;
 use std::marker::Model;
-use xv_base::{Layout, NoMemory, UnitHead, UnitId};
-use xv_frame::{decode_entry, decode_group_head};
+use xv_base::{Layout, MOST_GROUP, NoMemory, UnitHead, UnitId};
+use xv_frame::{ENTRY_HEAD_SIZE, HEAD_SIZE, decode_entry, decode_group_head};
 
 /// A message, with its content in a buffer that may have room for more.
 #[derive(Drop)]
@@ -99,10 +99,10 @@ impl Place {
                 let size = layout.size(entry.head.unit) as usize;
                 if entry.zero {
                     self.keep_zeros(entry.head, size);
-                    20
+                    ENTRY_HEAD_SIZE
                 } else {
-                    self.keep(entry.head, &bytes[20..20 + size]);
-                    20 + size
+                    self.keep(entry.head, &bytes[ENTRY_HEAD_SIZE..ENTRY_HEAD_SIZE + size]);
+                    ENTRY_HEAD_SIZE + size
                 }
             }
             Err(_) => unreachable!(),
@@ -164,14 +164,14 @@ impl Received {
     pub fn read(&mut self, frame: &[u8], layout: &Layout) -> u32
         requires sound { group_fault layout.now frame.now ≡ None }
         requires room { All (λ room. max_size layout.now ≤ room) self.old.rooms }
-        requires places { length self.old.rooms ≡ 16 }
+        requires places { length self.old.rooms ≡ MOST_GROUP }
         ensures count { result ≡ length (front_group layout.now frame.now) }
         ensures kept { self.new ≡ record self.old { messages = front_group layout.now frame.now } }
     {
         match decode_group_head(frame) {
             Ok(head) => {
                 self.count = head.count as usize;
-                read_entries(&mut self.places, self.count, &frame[24..], layout);
+                read_entries(&mut self.places, self.count, &frame[HEAD_SIZE..], layout);
                 u32::from(head.count)
             }
             Err(_) => unreachable!(),

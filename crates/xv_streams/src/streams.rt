@@ -18,8 +18,10 @@ use crate::making::{add_entry, put_head};
 use crate::received::Received;
 use std::alloc::Global;
 use std::marker::Model;
-use xv_base::{Failed, Layout, NoMemory, UnitHead};
-use xv_frame::{Head, encode_unit, read_head};
+use xv_base::{
+    Failed, GROUP_FORMAT, Layout, MOST_GROUP, MOST_STREAMS, NoMemory, SINGLE_FORMAT, UnitHead,
+};
+use xv_frame::{ENTRY_HEAD_SIZE, HEAD_SIZE, Head, encode_unit, read_head};
 use xv_wire::Wire;
 
 /// Some wires, each of which carries the messages of one stream.
@@ -56,7 +58,7 @@ impl<W: Wire> Model for Streams<W> {
 }
 
 impl<W: Wire> Streams<W> {
-    /// Streams over these wires, from 1 to 8, in which nothing is in transit, with frames of the format 1 or 2.
+    /// Streams over these wires, from 1 to `MOST_STREAMS`, in which nothing is in transit, with frames of one of the two formats.
     /// Errors: want of memory, with the wires as they were.
     pub fn new(
         alloc: Global,
@@ -65,8 +67,8 @@ impl<W: Wire> Streams<W> {
         format: u8,
     ) -> Result<Streams<W>, Vec<W>>
         requires some { 1 ≤ length wires.items }
-        requires few { length wires.items ≤ 8 }
-        requires format { (1 ≤ format) × (format ≤ 2) }
+        requires few { length wires.items ≤ MOST_STREAMS }
+        requires format { (SINGLE_FORMAT ≤ format) × (format ≤ GROUP_FORMAT) }
         requires none { All (λ w. (W.told w).transit ≡ []) wires.items }
         ensures shape { IfOk result (λ streams. streams.shape ≡ layout) }
         ensures format { IfOk result (λ streams. streams.format ≡ format) }
@@ -93,15 +95,15 @@ impl<W: Wire> Streams<W> {
             lanes,
             frame,
             count: 0,
-            end: 24,
+            end: HEAD_SIZE,
             received,
         })
     }
 
-    /// The format of the frames, 1 or 2.
+    /// The format of the frames.
     pub fn format(&self) -> u8
         ensures exactly { result ≡ self.now.format }
-        ensures known { (1 ≤ result) × (result ≤ 2) }
+        ensures known { (SINGLE_FORMAT ≤ result) × (result ≤ GROUP_FORMAT) }
     {
         self.format
     }
@@ -119,11 +121,11 @@ impl<W: Wire> Streams<W> {
     /// Errors: the wire failed, and the lists are unchanged.
     pub fn send(&mut self, stream: u8, head: UnitHead, bytes: &[u8]) -> Result<(), Failed>
         requires stream_in { stream < length self.old.lanes }
-        requires format { self.old.format ≡ 1 }
+        requires format { self.old.format ≡ SINGLE_FORMAT }
         requires unit_in { head.unit.0 < units self.old.shape }
         requires made { 1 ≤ head.version }
         requires whole { length bytes.now ≡ size self.old.shape head.unit.0 }
-        requires room { length (lane self.old stream).wire.transit + (24 + length bytes.now) ≤ (lane self.old stream).wire.capacity }
+        requires room { length (lane self.old stream).wire.transit + (HEAD_SIZE + length bytes.now) ≤ (lane self.old stream).wire.capacity }
         requires countable { IfSome (lane self.old stream).wire.counted (λ c. c.puts < 2 ^ 63) }
         ensures others { OnlyLane stream self.old self.new }
         ensures put { FramePut (UnitFrame (message head bytes.now)) (is_err result) (lane self.old stream) (lane self.new stream) }
@@ -142,7 +144,7 @@ impl<W: Wire> Streams<W> {
     /// Errors: the wire failed; the lists are unchanged, and a later call goes on with the bytes gathered.
     pub fn receive(&mut self, stream: u8, into: &mut [u8]) -> Result<Option<UnitHead>, Failed>
         requires stream_in { stream < length self.old.lanes }
-        requires format { self.old.format ≡ 1 }
+        requires format { self.old.format ≡ SINGLE_FORMAT }
         requires room { max_size self.old.shape ≤ length into.old }
         ensures others { OnlyLane stream self.old self.new }
         ensures taken { MessageTaken self.old.shape result (take (length (content_of_first (first_group (lane self.old stream).groups))) into.new) (lane self.old stream) (lane self.new stream) }
@@ -156,10 +158,10 @@ impl<W: Wire> Streams<W> {
         )
     }
 
-    /// Puts a message into the group that is being made, in which fewer than 16 are.
+    /// Puts a message into the group that is being made, in which fewer than `MOST_GROUP` are.
     pub fn add(&mut self, head: UnitHead, bytes: &[u8])
-        requires format { self.old.format ≡ 2 }
-        requires few { length self.old.making < 16 }
+        requires format { self.old.format ≡ GROUP_FORMAT }
+        requires few { length self.old.making < MOST_GROUP }
         requires unit_in { head.unit.0 < units self.old.shape }
         requires made { 1 ≤ head.version }
         requires whole { length bytes.now ≡ size self.old.shape head.unit.0 }
@@ -182,7 +184,7 @@ impl<W: Wire> Streams<W> {
         let end = self.end;
         put_head(self.count, end, &mut self.frame);
         self.count = 0;
-        self.end = 24;
+        self.end = HEAD_SIZE;
         let place = stream as usize;
         put_frame(
             &mut self.wires[place],
@@ -196,7 +198,7 @@ impl<W: Wire> Streams<W> {
     /// Errors: the wire failed; the lists are unchanged, and a later call goes on with the bytes gathered.
     pub fn receive_group(&mut self, stream: u8) -> Result<u32, Failed>
         requires stream_in { stream < length self.old.lanes }
-        requires format { self.old.format ≡ 2 }
+        requires format { self.old.format ≡ GROUP_FORMAT }
         ensures others { OnlyLane stream (record self.old { got = lent (is_err result) (lane self.old stream) }) self.new }
         ensures taken { GroupTaken self.old.shape result (lane self.old stream) (lane self.new stream) }
     {
@@ -233,7 +235,7 @@ impl<W: Wire> Streams<W> {
         ensures lanes { Each (IsCarried self.now.shape self.now.format) self.now.lanes }
         ensures making { IsMade self.now.shape self.now.making }
         ensures got { Each (IsMessage self.now.shape) self.now.got }
-        ensures only_in_groups { self.now.format ≡ 1 → (self.now.making ≡ []) × (self.now.got ≡ []) }
+        ensures only_in_groups { self.now.format ≡ SINGLE_FORMAT → (self.now.making ≡ []) × (self.now.got ≡ []) }
         ensures good { IsGood self.now.shape }
     {
         let _ = &self.layout;
@@ -241,7 +243,8 @@ impl<W: Wire> Streams<W> {
 
     /// The wires as they are.
     pub fn into_wires(self) -> Vec<W>
-        ensures { map W.told result.items ≡ map (λ l. l.wire) self.lanes }
+        ensures told { map W.told result.items ≡ map (λ l. l.wire) self.lanes }
+        ensures faults { map W.faults result.items ≡ map (λ l. l.faults) self.lanes }
     {
         self.wires
     }
@@ -250,7 +253,7 @@ impl<W: Wire> Streams<W> {
 /// Puts a frame, which then is on the way.
 fn put_frame<W: Wire>(wire: &mut W, lane: &mut Lane, frame: &[u8]) -> Result<(), Failed>
     requires room { MayCall (PutBytes frame.now) (W.told wire.old) }
-    requires few { lane.old.waiting * 24 ≤ length lane.old.bytes + length (W.told wire.old).transit }
+    requires few { lane.old.waiting * HEAD_SIZE ≤ length lane.old.bytes + length (W.told wire.old).transit }
     requires short { length lane.old.bytes < 2 ^ 32 }
     ensures made { CallMade (PutBytes frame.now) (is_err result) (W.told wire.old) (W.told wire.new) (W.faults wire.old) (W.faults wire.new) }
     ensures counted { lane.new ≡ record lane.old { waiting = if is_err result then lane.old.waiting else lane.old.waiting + 1 } }
@@ -274,9 +277,9 @@ fn receive_message<W: Wire>(
     into: &mut [u8],
 ) -> Result<Option<UnitHead>, Failed>
     requires good { IsGood layout.now }
-    requires lane { IsLaneOf layout.now 1 (W.told wire.old) lane.old }
+    requires lane { IsLaneOf layout.now SINGLE_FORMAT (W.told wire.old) lane.old }
     requires room { max_size layout.now ≤ length into.old }
-    ensures lane { IsLaneOf layout.now 1 (W.told wire.new) lane.new }
+    ensures lane { IsLaneOf layout.now SINGLE_FORMAT (W.told wire.new) lane.new }
     ensures taken { MessageTaken layout.now result (take (length (content_of_first (first_group (seen_lane layout.now (W.told wire.old) (W.faults wire.old) lane.old).groups))) into.new) (seen_lane layout.now (W.told wire.old) (W.faults wire.old) lane.old) (seen_lane layout.now (W.told wire.new) (W.faults wire.new) lane.new) }
 {
     match lane.gather(wire, layout) {
@@ -298,10 +301,10 @@ fn receive_messages<W: Wire>(
     received: &mut Received,
 ) -> Result<u32, Failed>
     requires good { IsGood layout.now }
-    requires lane { IsLaneOf layout.now 2 (W.told wire.old) lane.old }
-    requires received { IsReceived layout.now 2 received.old }
-    ensures lane { IsLaneOf layout.now 2 (W.told wire.new) lane.new }
-    ensures received { IsReceived layout.now 2 received.new }
+    requires lane { IsLaneOf layout.now GROUP_FORMAT (W.told wire.old) lane.old }
+    requires received { IsReceived layout.now GROUP_FORMAT received.old }
+    ensures lane { IsLaneOf layout.now GROUP_FORMAT (W.told wire.new) lane.new }
+    ensures received { IsReceived layout.now GROUP_FORMAT received.new }
     ensures messages { received.new.messages ≡ lent (is_err result) (seen_lane layout.now (W.told wire.old) (W.faults wire.old) lane.old) }
     ensures taken { GroupTaken layout.now result (seen_lane layout.now (W.told wire.old) (W.faults wire.old) lane.old) (seen_lane layout.now (W.told wire.new) (W.faults wire.new) lane.new) }
 {
@@ -324,15 +327,15 @@ fn receive_messages<W: Wire>(
 
 /// Reads a unit frame, whose content goes to the first bytes of `into`.
 fn read_unit(frame: &[u8], layout: &Layout, into: &mut [u8]) -> UnitHead
-    requires long { 24 ≤ length frame.now }
-    requires room { length frame.now ≤ 24 + length into.old }
-    requires known { read_head layout.now (take 24 frame.now) ≡ Ok (Head.Unit (front_head frame.now)) }
+    requires long { HEAD_SIZE ≤ length frame.now }
+    requires room { length frame.now ≤ HEAD_SIZE + length into.old }
+    requires known { read_head layout.now (take HEAD_SIZE frame.now) ≡ Ok (Head.Unit (front_head frame.now)) }
     ensures head { result ≡ front_head frame.now }
-    ensures content { take (length frame.now - 24) into.new ≡ drop 24 frame.now }
+    ensures content { take (length frame.now - HEAD_SIZE) into.new ≡ drop HEAD_SIZE frame.now }
 {
-    let content = frame.len() - 24;
-    into[..content].copy_from_slice(&frame[24..]);
-    match read_head(&frame[..24], layout) {
+    let content = frame.len() - HEAD_SIZE;
+    into[..content].copy_from_slice(&frame[HEAD_SIZE..]);
+    match read_head(&frame[..HEAD_SIZE], layout) {
         Ok(Head::Unit(head)) => head,
         Ok(Head::Ack(_)) => unreachable!(),
         Err(_) => unreachable!(),
@@ -345,10 +348,10 @@ fn frame_room(layout: &Layout, format: u8) -> usize
     ensures good { IsGood layout.now }
 {
     let size = layout.max_size() as usize;
-    if format == 1 {
-        24 + size
+    if format == SINGLE_FORMAT {
+        HEAD_SIZE + size
     } else {
-        24 + 16 * (20 + size)
+        HEAD_SIZE + usize::from(MOST_GROUP) * (ENTRY_HEAD_SIZE + size)
     }
 }
 
@@ -356,7 +359,11 @@ fn frame_room(layout: &Layout, format: u8) -> usize
 fn most_received(format: u8) -> usize
     ensures { result ≡ most_received format }
 {
-    if format == 1 { 0 } else { 16 }
+    if format == SINGLE_FORMAT {
+        0
+    } else {
+        usize::from(MOST_GROUP)
+    }
 }
 
 /// Lanes on which nothing is.

@@ -17,8 +17,8 @@ use Rattle.xv_core.specs.Seen.{Seen, view_of}
 use Rattle.xv_core.specs.Rising.{Rises, TakesRise}
 use Rattle.xv_core.specs.Stepped.{IsStep, KeepsUnwritten, TellsOn}
 use Rattle.xv_core.specs.Keeping.{IsKept}
-use Rattle.xv_core.proofs.CountingRises.{rises-refl, rises-over}
-use Rattle.xv_core.proofs.PlansRise.{takes-rise-refl, takes-rise-over}
+use Rattle.xv_core.proofs.Counting.Rises.{rises-refl, rises-over}
+use Rattle.xv_core.proofs.Plans.Rise.{takes-rise-refl, takes-rise-over}
 use Rattle.xv_top.specs.Playing.{IsEventPlayed, IsLinePlayed}
 
 pub record IsLater (old new : Seen) : Type 0 where

@@ -5,7 +5,7 @@ use Rattle.std.proofs.Math.Seq.{take-append-add}
 use Rattle.std.proofs.lemmas.List.Folds.{list_all-append}
 use Rattle.std.specs.List.{list_all}
 use Rattle.xv_io.specs.Io.{TookMore, TookFront}
-use Rattle.xv_report.proofs.Took.{took-both, front-first, front-last}
+use Rattle.xv_io.proofs.Took.{took-both, front-first, front-last}
 use Rattle.xv_model.specs.Job.{Job, IsGoodJob}
 use Rattle.xv_model.specs.View.{first_view}
 use Rattle.xv_model.specs.Step.{Entry, play, is_faithful}

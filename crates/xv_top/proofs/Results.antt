@@ -4,7 +4,7 @@ use Rattle.xv_base.specs.declared.event.Totals.{Totals}
 use Rattle.xv_device.specs.Memory.{Device, told}
 use Rattle.xv_device.specs.Told.{Told}
 use Rattle.xv_io.specs.Io.{TookMore}
-use Rattle.xv_io.proofs.Told.{took-both}
+use Rattle.xv_io.proofs.Took.{took-both}
 use Rattle.xv_model.specs.Report.{totals}
 use Rattle.xv_report.specs.Texts.{image_text}
 use Rattle.xv_job.specs.Written.{job_of}

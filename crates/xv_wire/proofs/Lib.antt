@@ -1,4 +1,3 @@
 pub mod Passing
-pub mod Made
 pub mod Pushing
 pub mod Piping

@@ -2,6 +2,7 @@
 use Rattle.std.proofs.Common.{◌≡◌, ℕ, ◌+◌, ◌-◌, ◌*◌, ◌/◌, ◌<◌, ◌≤◌, List, [], ◌∷◌, ◌++◌, length, sym, ap, ◌∙◌, arith, refl, false, inl, inr}
 use Rattle.std.specs.Prelude.{if◌then◌else◌, nat_lt}
 use Rattle.std.proofs.lemmas.Bool.{lt-ltb, le-ltb, cases_lt}
+use Rattle.xv_wire.specs.declared.wire.TheConstants.{LEAST_PUT}
 use Rattle.xv_wire.specs.Wire.{left_past, is_inside}
 use Rattle.xv_wire.specs.Lengths.{total, AreWide, IsPart}
 
@@ -55,17 +56,6 @@ pub part-left : (n : ℕ) (ps : List ℕ) → IsPart n ps → total (left_past n
 part-left n [] h = part-empty n h
 part-left n (p ∷ ps) h = ap (λ xs. total xs + n) (left-within n p ps h) ∙ omega arith
 
-pub part-long : (n : ℕ) (ps : List ℕ) → IsPart n ps → length (left_past n ps) ≡ length ps
-part-long n [] h = refl
-part-long n (p ∷ ps) h = ap length (left-within n p ps h)
-
-part-none : (n : ℕ) → n ≡ 0 → n ≤ 0
-part-none n h = omega arith
-
-pub part-inside : (n : ℕ) (ps : List ℕ) → IsPart n ps → is_inside n ps ≡ nat_lt 0 n
-part-inside n [] h = sym (le-ltb 0 n (part-none n h))
-part-inside n (p ∷ ps) h = inside-within n p ps h
-
 pub total-left : (n : ℕ) (ps : List ℕ) → n ≤ total ps → total (left_past n ps) + n ≡ total ps
 total-left n [] h = omega arith
 total-left n (p ∷ ps) h = elim (cases_lt n p) [
@@ -85,7 +75,7 @@ pub left-push : (n k : ℕ) (ps : List ℕ) → IsPart n ps → 0 < k → left_p
 left-push n k [] h w = ap (λ m. left_past m (k ∷ [])) h ∙ left-within 0 k [] w ∙ (let e : k - 0 ≡ k = omega arith in ap (λ j. j ∷ []) e)
 left-push n k (p ∷ ps) h w = left-within n p (ps ++ k ∷ []) h ∙ ap (λ xs. xs ++ k ∷ []) (sym (left-within n p ps h))
 
-pub wide-push : (ps : List ℕ) (k : ℕ) → AreWide ps → 24 ≤ k → AreWide (ps ++ k ∷ [])
+pub wide-push : (ps : List ℕ) (k : ℕ) → AreWide ps → LEAST_PUT ≤ k → AreWide (ps ++ k ∷ [])
 wide-push [] k h w = (w, tt)
 wide-push (p ∷ ps) k h w = (h.0, wide-push ps k h.1 w)
 
@@ -97,12 +87,12 @@ pub total-push : (ps : List ℕ) (k : ℕ) → total (ps ++ k ∷ []) ≡ total 
 total-push [] k = omega arith
 total-push (p ∷ ps) k = omega (arith, total-push ps k)
 
-pub wide-total : (ps : List ℕ) → AreWide ps → 24 * length ps ≤ total ps
+pub wide-total : (ps : List ℕ) → AreWide ps → LEAST_PUT * length ps ≤ total ps
 wide-total [] h = omega arith
 wide-total (p ∷ ps) h = omega (arith, wide-total ps h.1, h.0)
 
 -- there is room for one piece more where there is room for its bytes
-pub room-for-one : (n : ℕ) (ps : List ℕ) (most k : ℕ) → AreWide ps → IsPart n ps → total (left_past n ps) + k ≤ most → 24 ≤ k → length ps < most / 24 + 1
+pub room-for-one : (n : ℕ) (ps : List ℕ) (most k : ℕ) → AreWide ps → IsPart n ps → total (left_past n ps) + k ≤ most → LEAST_PUT ≤ k → length ps < most / LEAST_PUT + 1
 room-for-one n [] most k h part fits w = omega arith
 room-for-one n (p ∷ ps) most k h part fits w =
     let left : total (left_past n (p ∷ ps)) ≡ (p - n) + total ps = ap total (left-within n p ps part) in

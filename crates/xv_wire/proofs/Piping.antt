@@ -3,6 +3,7 @@ use Rattle.std.proofs.Common.{◌≡◌, ℕ, ◌+◌, ◌-◌, ◌^◌, ◌<◌
 use Rattle.std.specs.Prelude.{min}
 use Rattle.std.proofs.lemmas.List.{take_all, take-append-drop, drop-append-le, length-take, length_push}
 use Rattle.circular_buffer.specs.Buffer.{Buffer, buffer}
+use Rattle.xv_base.specs.Calls.{next_count}
 use Rattle.xv_wire.specs.Wire.{left_past, is_inside}
 use Rattle.xv_wire.specs.Lengths.{InTransit, total}
 use Rattle.xv_wire.specs.Memory.{IsPipe}
@@ -18,12 +19,12 @@ push-some : (xs : List ℕ) (k : ℕ) → xs ++ k ∷ [] ≡ [] → ⊥
 push-some [] k e = cc
 push-some (x ∷ xs) k e = cc
 
-pub put-keeps : (capacity piece room puts sent count : ℕ) (transit bytes : List ℕ) (old new : InTransit) (b : Buffer ℕ)
-    → IsPipe capacity piece transit room old puts sent → puts < 2 ^ 63 → length transit + length bytes ≤ capacity
+pub put-keeps : (capacity piece room puts calls sent count : ℕ) (transit bytes : List ℕ) (old new : InTransit) (b : Buffer ℕ)
+    → IsPipe capacity piece transit room old puts sent → puts < 2 ^ 63 → calls ≡ next_count puts → length transit + length bytes ≤ capacity
     → count ≡ min (length bytes) (room - length transit) → b ≡ buffer (transit ++ take count bytes) room
     → new ≡ record old { left = old.left ++ length bytes ∷ [] }
-    → IsPipe capacity piece b.items b.capacity new (puts + 1) (sent + 1)
-put-keeps capacity piece room puts sent count transit bytes old new b h few fits c e n =
+    → IsPipe capacity piece b.items b.capacity new calls (sent + 1)
+put-keeps capacity piece room puts calls sent count transit bytes old new b h few one fits c e n =
     let all : count ≡ length bytes = omega (arith, h.roomy) in
     let items : b.items ≡ transit ++ bytes = ap (λ (x : Buffer ℕ). x.items) e ∙ ap (λ xs. transit ++ xs) (take_all count bytes (omega arith)) in
     let left : new.left ≡ old.left ++ length bytes ∷ [] = ap (λ (x : InTransit). x.left) n in
@@ -35,8 +36,8 @@ put-keeps capacity piece room puts sent count transit bytes old new b h few fits
       whole = ap total left ∙ total-push old.left (length bytes) ∙ omega (arith, long, h.whole);
       as_many = ap (λ (x : InTransit). x.most) n ∙ h.as_many;
       put = omega (arith, ap length left, length_push old.left (length bytes), h.put);
-      called = omega (arith, h.called);
-      countable = omega arith;
+      called = omega (arith, h.called, one);
+      countable = omega (arith, one);
       met_some = λ none. absurd (push-some old.left (length bytes) (sym left ∙ none));
     }
 

@@ -1,5 +1,6 @@
 -- The pieces in transit, as a wire in memory remembers them.
 use Rattle.std.specs.Prelude.{◌≡◌, ℕ, ◌+◌, ◌<◌, ◌≤◌, Bool, ◌||◌, nat_lt, List, [], ◌∷◌, ⊤}
+use Rattle.xv_wire.specs.declared.wire.TheConstants.{LEAST_PUT}
 use Rattle.xv_wire.specs.Wire.{left_past}
 
 -- what is left of each, whether a take has met the first byte of the first, and how many bytes they may have together
@@ -13,10 +14,10 @@ abbrev pub total : List ℕ → ℕ
 total [] = 0
 total (p ∷ ps) = p + total ps
 
--- each piece had 24 bytes or more
+-- each piece had the bytes of a put, or more
 abbrev pub AreWide : List ℕ → Type 0
 AreWide [] = ⊤
-AreWide (p ∷ ps) = (24 ≤ p) × AreWide ps
+AreWide (p ∷ ps) = (LEAST_PUT ≤ p) × AreWide ps
 
 -- so many bytes are a part of the first piece, and none of no piece
 abbrev pub IsPart : ℕ → List ℕ → Type 0

@@ -1,7 +1,8 @@
 -- What is seen of a wire in memory, and how it begins.
 use Rattle.std.specs.Prelude.{◌≡◌, ℕ, ◌^◌, ◌≤◌, min, Bool, false, if◌then◌else◌, List, [], length, Some}
-use Rattle.xv_wire.specs.Wire.{WireCall, Plan, Counted, transit_after, counted_after, next_count}
+use Rattle.xv_wire.specs.Wire.{WireCall, Plan, Counted, transit_after, counted_after}
 use Rattle.xv_wire.specs.Told.{Told}
+use Rattle.xv_base.specs.Calls.{next_count}
 use Rattle.xv_wire.specs.Lengths.{InTransit, total}
 
 -- at most so many bytes in transit, at most so many a take, and what is counted

@@ -1,5 +1,6 @@
 -- What a wire tells, what may be called, and that exactly one call was made.
 use Rattle.std.specs.Prelude.{◌≡◌, ℕ, ◌+◌, ◌-◌, ◌^◌, ◌<◌, ◌≤◌, min, Bool, if◌then◌else◌, List, length, Option, option_map, IfSome, ⊤}
+use Rattle.xv_wire.specs.declared.wire.TheConstants.{LEAST_PUT}
 use Rattle.xv_wire.specs.Wire.{WireCall, NoCall, PutBytes, TakeBytes, Counted, transit_after, counted_after, is_planned}
 
 -- how many bytes may be in transit, those that are, and where they are told the plan with what it counts
@@ -8,10 +9,10 @@ pub record Told : Type 0 where
   pub transit : List ℕ
   pub counted : Option Counted
 
--- what may be called: a put of 24 bytes or more for which there is room, and whose number has not grown out of reach
+-- what may be called: a put of enough bytes, for which there is room, and whose number has not grown out of reach
 abbrev pub MayCall : WireCall → Told → Type 0
 MayCall NoCall t = ⊤
-MayCall (PutBytes bytes) t = (24 ≤ length bytes) × (length t.transit + length bytes ≤ t.capacity) × IfSome t.counted (λ c. c.puts < 2 ^ 63)
+MayCall (PutBytes bytes) t = (LEAST_PUT ≤ length bytes) × (length t.transit + length bytes ≤ t.capacity) × IfSome t.counted (λ c. c.puts < 2 ^ 63)
 MayCall (TakeBytes n) t = ⊤
 
 -- what is told after a call that failed or did not

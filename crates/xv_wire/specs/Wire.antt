@@ -1,6 +1,6 @@
 -- A call of a wire as data, and what it does to the bytes in transit and to what is counted.
-use Rattle.std.specs.Prelude.{ℕ, ◌+◌, ◌^◌, ◌-◌, ◌==◌, nat_lt, min, max, Bool, true, false, not, ◌&&◌, List, [], ◌∷◌, ◌++◌, length, drop, Result, Ok, Err, if◌then◌else◌}
-use Rattle.std.specs.List.{list_any}
+use Rattle.std.specs.Prelude.{ℕ, ◌+◌, ◌-◌, ◌==◌, nat_lt, Bool, true, false, not, ◌&&◌, List, [], ◌∷◌, ◌++◌, length, drop, Result, Ok, Err, if◌then◌else◌}
+use Rattle.xv_base.specs.Calls.{is_listed}
 use Rattle.xv_base.specs.declared.unit.Failed.{Failed}
 
 -- one call: bytes put, so many bytes taken, or none at all
@@ -54,10 +54,6 @@ counted_after (PutBytes bytes) failed c = record c {
 }
 counted_after (TakeBytes n) failed c = record c { left = left_after n c.left; met = if failed then true else met_past n c.met c.left }
 
--- whether the list has a number
-abbrev pub is_listed : List ℕ → ℕ → Bool
-is_listed fails call = list_any (λ k. k == call) fails
-
 -- the number of the piece whose bytes are the first in transit
 abbrev pub front_piece : Counted → ℕ
 front_piece c = c.pieces + 1 - length c.left
@@ -72,7 +68,3 @@ is_planned (TakeBytes n) transit c = (nat_lt 0 (length transit) && not c.met) &&
 abbrev pub taken : Result ℕ Failed → ℕ
 taken (Ok n) = n
 taken (Err f) = 0
-
--- one more, in a count that stands still at the last value of 64 bits
-abbrev pub next_count : ℕ → ℕ
-next_count n = max n (min (n + 1) (2 ^ 64 - 1))

@@ -15,4 +15,4 @@ mod wire;
 
 pub use memory::MemWire;
 pub use plan::WirePlan;
-pub use wire::Wire;
+pub use wire::{LEAST_PUT, Wire};

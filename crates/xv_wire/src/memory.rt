@@ -6,12 +6,12 @@ ghost use Rattle.xv_wire.specs.Memory.{fresh, after, given};
 ghost use Rattle.circular_buffer.specs.Buffer.{buffer};
 
 use crate::pieces::Pieces;
-use crate::plan::{WirePlan, one_more};
-use crate::wire::Wire;
+use crate::plan::WirePlan;
+use crate::wire::{LEAST_PUT, Wire};
 use circular_buffer::HeapCircularBuffer;
 use std::alloc::Global;
 use std::marker::Model;
-use xv_base::{Failed, NoMemory};
+use xv_base::{Failed, NoMemory, PlannedCalls, is_listed};
 
 /// A wire in memory, which tells its plan and what it counts.
 #[derive(Drop)]
@@ -21,12 +21,12 @@ pub struct MemWire {
     /// How many bytes a take gives at most.
     piece: u32,
     pieces: Pieces,
-    plan: WirePlan,
-    /// How many puts were called.
-    puts: u64,
-    /// How many of them put a piece.
+    /// The puts. Its count of faults is that of the takes too.
+    puts: PlannedCalls,
+    /// The numbers of the pieces at which a take is to fail.
+    takes: Vec<u32>,
+    /// How many puts have put a piece.
     sent: u64,
-    faults: u64,
 }
 
 impl Model for MemWire {
@@ -39,15 +39,21 @@ impl Model for MemWire {
       capacity = w.capacity;
       piece = w.piece;
       transit = w.bytes.items;
-      counted = record { plan = w.plan; puts = w.puts; pieces = w.sent; left = w.pieces.left; met = w.pieces.met };
-      faults = w.faults;
+      counted = record {
+        plan = record { puts = w.puts.fails; takes = w.takes.items };
+        puts = w.puts.calls;
+        pieces = w.sent;
+        left = w.pieces.left;
+        met = w.pieces.met;
+      };
+      faults = w.puts.faults;
     } };
 
-    ghost invariant = { λ w. IsPipe w.capacity w.piece w.bytes.items w.bytes.capacity w.pieces w.puts w.sent };
+    ghost invariant = { λ w. IsPipe w.capacity w.piece w.bytes.items w.bytes.capacity w.pieces w.puts.calls w.sent };
 }
 
 impl MemWire {
-    /// A wire for `capacity` bytes in transit, 24 or more, whose takes give at most `piece` bytes, one or more. Nothing
+    /// A wire for `capacity` bytes in transit, as many as a put has at least, whose takes give at most `piece` bytes, one or more. Nothing
     /// is in transit, and nothing is counted. The calls fail exactly by the plan.
     pub fn new(
         alloc: Global,
@@ -55,7 +61,7 @@ impl MemWire {
         piece: u32,
         plan: WirePlan,
     ) -> Result<MemWire, NoMemory>
-        requires room { 24 ≤ capacity }
+        requires room { LEAST_PUT ≤ capacity }
         requires some { 1 ≤ piece }
         ensures { IfOk result (λ wire. wire ≡ fresh capacity piece plan) }
     {
@@ -65,15 +71,15 @@ impl MemWire {
         let Ok(pieces) = Pieces::new(alloc, capacity) else {
             return Err(NoMemory);
         };
+        let WirePlan { puts, takes } = plan;
         Ok(MemWire {
             bytes,
             capacity,
             piece,
             pieces,
-            plan,
-            puts: 0,
+            puts: PlannedCalls::of(puts),
+            takes,
             sent: 0,
-            faults: 0,
         })
     }
 
@@ -84,20 +90,16 @@ impl MemWire {
         self.capacity
     }
 
-    /// Appends 24 bytes or more, for which there is room, to those in transit.
+    /// Appends `LEAST_PUT` bytes or more, for which there is room, to those in transit.
     pub fn put(&mut self, bytes: &[u8]) -> Result<(), Failed>
-        requires wide { 24 ≤ length bytes.now }
+        requires wide { LEAST_PUT ≤ length bytes.now }
         requires room { length self.old.transit + length bytes.now ≤ self.old.capacity }
         requires countable { self.old.counted.puts < 2 ^ 63 }
         ensures fails { is_err result ≡ is_planned (PutBytes bytes.now) self.old.transit self.old.counted }
         ensures after { self.new ≡ after (PutBytes bytes.now) (is_err result) self.old }
         ensures sure { self.old.counted.plan.puts ≡ [] → is_err result ≡ false }
     {
-        self.puts += 1;
-        if self.plan.fails_put(self.puts) {
-            self.faults = one_more(self.faults);
-            return Err(Failed);
-        }
+        self.puts.begin()?;
         self.pieces.push(bytes.len() as u32);
         self.bytes.fill_from_slice(bytes);
         self.sent += 1;
@@ -117,8 +119,7 @@ impl MemWire {
     {
         if self.fails_now() {
             self.pieces.stop();
-            self.faults = one_more(self.faults);
-            return Err(Failed);
+            return Err(self.puts.fault());
         }
         let count = read_piece(&mut self.bytes, self.piece, into);
         if count > 0 {
@@ -132,7 +133,7 @@ impl MemWire {
         ensures { result ≡ is_planned (TakeBytes 0) self.now.transit self.now.counted }
     {
         let piece = self.sent + 1 - self.pieces.len();
-        !self.bytes.is_empty() && !self.pieces.is_met() && self.plan.fails_take(piece)
+        !self.bytes.is_empty() && !self.pieces.is_met() && is_listed(&self.takes, piece)
     }
 }
 

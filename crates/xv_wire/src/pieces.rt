@@ -5,12 +5,13 @@ ghost use Rattle.circular_buffer.specs.Buffer.{buffer};
 ghost use Rattle.xv_wire.specs.Wire.{left_past, is_inside};
 ghost use Rattle.xv_wire.specs.Lengths.{AreWide, IsPart, total};
 
+use crate::wire::LEAST_PUT;
 use circular_buffer::HeapCircularBuffer;
 use std::alloc::Global;
 use std::marker::Model;
 use xv_base::NoMemory;
 
-/// The pieces in transit by their lengths, each of 24 bytes or more. As many have room as fit the wire.
+/// The pieces in transit by their lengths, each of a put's least bytes or more. As many have room as fit the wire.
 #[derive(Drop)]
 pub struct Pieces {
     lengths: HeapCircularBuffer<u32>,
@@ -24,13 +25,14 @@ pub struct Pieces {
 
 impl Model for Pieces {
     ghost use Rattle.std.specs.Prelude.{◌≡◌, ◌+◌, ◌/◌, ◌≤◌};
+    ghost use Rattle.xv_wire.specs.declared.wire.TheConstants.{LEAST_PUT};
     ghost use Rattle.xv_wire.specs.Lengths.{InTransit, AreWide, IsPart, in_transit, total};
 
     ghost Value = { InTransit };
 
     ghost view = { λ p. in_transit p.lengths.items p.taken p.stopped p.most };
 
-    ghost invariant = { λ p. AreWide p.lengths.items × IsPart p.taken p.lengths.items × (total p.lengths.items ≤ p.taken + p.most) × (p.lengths.capacity ≡ p.most / 24 + 1) };
+    ghost invariant = { λ p. AreWide p.lengths.items × IsPart p.taken p.lengths.items × (total p.lengths.items ≤ p.taken + p.most) × (p.lengths.capacity ≡ p.most / LEAST_PUT + 1) };
 }
 
 impl Pieces {
@@ -38,7 +40,7 @@ impl Pieces {
     pub fn new(alloc: Global, most: u32) -> Result<Pieces, NoMemory>
         ensures { IfOk result (λ p. p ≡ record { left = []; met = false; most = most }) }
     {
-        match HeapCircularBuffer::with_capacity(alloc, most as usize / 24 + 1) {
+        match HeapCircularBuffer::with_capacity(alloc, (most / LEAST_PUT) as usize + 1) {
             Ok(lengths) => Ok(Pieces {
                 lengths,
                 taken: 0,
@@ -65,7 +67,7 @@ impl Pieces {
 
     /// A piece of so many bytes follows.
     pub fn push(&mut self, bytes: u32)
-        requires wide { 24 ≤ bytes }
+        requires wide { LEAST_PUT ≤ bytes }
         requires room { total self.old.left + bytes ≤ self.old.most }
         ensures { self.new ≡ record self.old { left = self.old.left ++ bytes ∷ [] } }
     {

@@ -5,7 +5,7 @@ use Rattle.xv_model.specs.Job.{Job, IsGoodJob, blocks}
 use Rattle.xv_model.specs.View.{View, Phase, Disk, no_disk, members, is_running, is_stunned, is_live}
 use Rattle.xv_model.specs.Outstanding.{any, count_streams}
 use Rattle.xv_model.specs.Effect.{without_region}
-use Rattle.xv_model.specs.Work.{waiting_count, copy_left, copies_left, operation_weight, dirty_weight, operations_left, work_left}
+use Rattle.xv_model.specs.Work.{waiting_count, copy_left, copies_left, operation_weight, dirty_weight}
 use Rattle.xv_base.specs.declared.event.Phase.TheVariants.{Running, Stunned, Switched, Cancelled, Failed}
 
 -- the work left in a phase: in operations, copies and messages, and in so many rounds
@@ -20,9 +20,6 @@ abbrev pub messages_of : Job → View → ℕ
 messages_of job v =
     6 * members v.to_send + dirty_weight job.format * members v.dirty + 5 * length v.outbox.messages
     + 4 * count_streams any v.streams + 3 * length v.hold.held + 2 * v.freed + length v.acks
-
-pub work_is : (job : Job) (v : View) → work_left job v ≡ work_of v.phase (operations_left job v) (copies_of job v.disks) (messages_of job v) (job.config.rounds - v.rounds)
-work_is job v = refl
 
 -- in any phase, operations less
 pub lower_operations : (p : Phase) (o o' c m r : ℕ) → o' + 1 ≤ o → work_of p o' c m r + 1 ≤ work_of p o c m r

@@ -28,9 +28,6 @@ reads-append job h t (suc n) le = rw (reads-append job h t n (omega arith), read
 abbrev pub operation_of : Job → List Ended → Ended → UnitOp
 operation_of job h e = operation job e.guest.0 (ended h e.guest.0)
 
-pub operation_at-new : (job : Job) (h : List Ended) (e : Ended) → operation_at job (h ++ e ∷ []) (length h) ≡ operation_of job h e
-operation_at-new job h e = rw (get_or_push h e no_entry (length h) refl, take_at h (e ∷ []) (length h) refl)
-
 pub content-new : (job : Job) (h : List Ended) (e : Ended) (unit : ℕ) → content job (h ++ e ∷ []) unit (suc (length h)) ≡ written (is_done e.outcome && writes_to (operation_of job h e) unit) (operation_of job h e) (content job h unit (length h))
 content-new job h e unit = rw (content-append job h (e ∷ []) unit (length h) (omega arith), get_or_push h e no_entry (length h) refl, take_at h (e ∷ []) (length h) refl)
 

@@ -5,8 +5,9 @@ use Rattle.std.proofs.lemmas.Bool.{and_parts, eqb-true, eq-eqb}
 use Rattle.std.proofs.lemmas.List.{length-replicate, length-append, length-take, length-drop, length_push}
 use Rattle.std.proofs.lemmas.List.Sums.{count_by_more_yes}
 use Rattle.xv_model.proofs.Histories.{ended-take-le}
+use Rattle.xv_base.specs.Initial.{first_content}
 use Rattle.xv_model.specs.Job.{Job, Init, IsGoodJob, IsLegal, size, repeated, trace}
-use Rattle.xv_model.specs.Guest.{Ended, ended, entry, no_entry, is_done, operation_at, writes_to, wrote, overlaid, written, initial_by, content}
+use Rattle.xv_model.specs.Guest.{Ended, ended, entry, no_entry, is_done, operation_at, writes_to, wrote, overlaid, written, content}
 
 pub length-repeated : (pattern : List ℕ) (n : ℕ) → length (repeated pattern n) ≡ n
 length-repeated pattern zero = refl
@@ -15,12 +16,12 @@ length-repeated pattern (suc n) =
     let rest = length-repeated pattern n in
     omega arith
 
-length-initial_by : (init : List Init) (bytes unit : ℕ) → length (initial_by init bytes unit) ≡ bytes
-length-initial_by [] bytes unit = length-replicate bytes 0
-length-initial_by (i ∷ is) bytes unit =
-    elim (i.unit.0 == unit) as (λ b. length (if b then repeated i.pattern bytes else initial_by is bytes unit) ≡ bytes) [
+length-first_content : (init : List Init) (bytes unit : ℕ) → length (first_content init bytes unit) ≡ bytes
+length-first_content [] bytes unit = length-replicate bytes 0
+length-first_content (i ∷ is) bytes unit =
+    elim (i.unit.0 == unit) as (λ b. length (if b then repeated i.pattern bytes else first_content is bytes unit) ≡ bytes) [
       | true ↦ length-repeated i.pattern bytes
-      | false ↦ length-initial_by is bytes unit
+      | false ↦ length-first_content is bytes unit
     ]
 
 length-overlaid : (w : Option (List ℕ)) (offset len : ℕ) (x : List ℕ) → offset + len ≤ length x → length (overlaid w offset len x) ≡ length x
@@ -59,6 +60,6 @@ length-written job h unit n true legal e before =
     length-overlaid op.write op.offset op.len (content job h unit n) (omega arith) ∙ before
 
 pub length-content : (job : Job) (h : List Ended) (unit n : ℕ) → IsGoodJob job → ((guest : ℕ) → ended h guest ≤ length (trace job guest)) → n ≤ length h → length (content job h unit n) ≡ size job.shape unit
-length-content job h unit zero good legal le = length-initial_by job.init (size job.shape unit) unit
+length-content job h unit zero good legal le = length-first_content job.init (size job.shape unit) unit
 length-content job h unit (suc n) good legal le =
     length-written job h unit n (wrote job h unit n) (operation_at-legal job h n good legal le) refl (length-content job h unit n good legal (omega arith))

@@ -1,4 +1,4 @@
-use Rattle.xv_core.proofs.CountingStart.{counts-begin, flags-begin, plans-begin, pieces-begin}
+use Rattle.xv_core.proofs.Counting.Start.{counts-begin, flags-begin, plans-begin, pieces-begin}
 use Rattle.xv_core.proofs.counting_laws.all_begin.Goals as goal
 
 pub returns : goal.returns

@@ -1,4 +1,4 @@
-use Rattle.xv_core.proofs.CountingFit.{counts-fit}
+use Rattle.xv_core.proofs.Counting.Fit.{counts-fit}
 use Rattle.xv_core.proofs.counting_laws.counts_stay_in_reach.Goals as goal
 
 pub returns : goal.returns

@@ -1,4 +1,4 @@
-use Rattle.xv_core.proofs.CountingFaults.{flags-are-caused}
+use Rattle.xv_core.proofs.Counting.Faults.{flags-are-caused}
 use Rattle.xv_core.proofs.counting_laws.flags_stay_caused.Goals as goal
 
 pub returns : goal.returns

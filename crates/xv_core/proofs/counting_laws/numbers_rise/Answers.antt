@@ -1,4 +1,4 @@
-use Rattle.xv_core.proofs.CountingRises.{rises, rises-refl, rises-over}
+use Rattle.xv_core.proofs.Counting.Rises.{rises, rises-refl, rises-over}
 use Rattle.xv_core.proofs.counting_laws.numbers_rise.Goals as goal
 
 pub returns : goal.returns

@@ -1,4 +1,4 @@
-use Rattle.xv_core.proofs.PlansRise.{takes-rise, takes-rise-refl, takes-rise-over}
+use Rattle.xv_core.proofs.Plans.Rise.{takes-rise, takes-rise-refl, takes-rise-over}
 use Rattle.xv_core.proofs.counting_laws.takes_rise.Goals as goal
 
 pub returns : goal.returns

@@ -1,6 +1,6 @@
 use Rattle.std.proofs.Common.{◌≡◌, ◌∙◌, ap, sym}
 use Rattle.xv_job.specs.Written.{Written, ops_held}
-use Rattle.xv_core.proofs.TraceLengths.{operations-counted}
+use Rattle.xv_core.proofs.GuestEvents.TraceLengths.{operations-counted}
 use Rattle.xv_core.proofs.guest_waits.operations.Goals as goal
 
 pub returns : goal.returns

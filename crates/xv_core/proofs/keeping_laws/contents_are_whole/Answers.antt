@@ -1,4 +1,4 @@
-use Rattle.xv_core.proofs.ConditionsReads.{source-whole, dest-whole}
+use Rattle.xv_core.proofs.Keeping.Reads.{source-whole, dest-whole}
 use Rattle.xv_core.proofs.keeping_laws.contents_are_whole.Goals as goal
 
 pub returns : goal.returns

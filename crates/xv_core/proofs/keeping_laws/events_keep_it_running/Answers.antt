@@ -1,4 +1,4 @@
-use Rattle.xv_core.proofs.Keeps.{keeps}
+use Rattle.xv_core.proofs.Keeping.Keeps.{keeps}
 use Rattle.xv_core.proofs.keeping_laws.events_keep_it_running.Goals as goal
 
 pub returns : goal.returns

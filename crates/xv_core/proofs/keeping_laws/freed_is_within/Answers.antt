@@ -1,4 +1,4 @@
-use Rattle.xv_core.proofs.ConditionsCalls.{freed-within, freed-below, ready-few, apply-few}
+use Rattle.xv_core.proofs.Keeping.Calls.{freed-within, freed-below, ready-few, apply-few}
 use Rattle.xv_core.proofs.keeping_laws.freed_is_within.Goals as goal
 
 pub returns : goal.returns

@@ -1,4 +1,4 @@
-use Rattle.xv_core.proofs.ConditionsCalls.{front-group, can-take}
+use Rattle.xv_core.proofs.Keeping.Calls.{front-group, can-take}
 use Rattle.xv_core.proofs.keeping_laws.hold_can_take.Goals as goal
 
 pub returns : goal.returns

@@ -1,4 +1,4 @@
-use Rattle.xv_core.proofs.ConditionsCounts.{journal-has-room, history-has-room}
+use Rattle.xv_core.proofs.Keeping.Counts.{journal-has-room, history-has-room}
 use Rattle.xv_core.proofs.keeping_laws.journal_has_room.Goals as goal
 
 pub returns : goal.returns

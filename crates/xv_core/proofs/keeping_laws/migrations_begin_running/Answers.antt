@@ -1,4 +1,4 @@
-use Rattle.xv_core.proofs.KeepsStart.{starts}
+use Rattle.xv_core.proofs.Beginning.KeepsStart.{starts}
 use Rattle.xv_core.proofs.keeping_laws.migrations_begin_running.Goals as goal
 
 pub returns : goal.returns

@@ -1,4 +1,4 @@
-use Rattle.xv_core.proofs.ConditionsCounts.{few-versions, few-rounds, short-history, journal-short, bound-small}
+use Rattle.xv_core.proofs.Keeping.Counts.{few-versions, few-rounds, short-history, journal-short, bound-small}
 use Rattle.xv_core.proofs.keeping_laws.numbers_stay_small.Goals as goal
 
 pub returns : goal.returns

@@ -1,4 +1,4 @@
-use Rattle.xv_core.proofs.ConditionsCalls.{next-legal, waits-in-front}
+use Rattle.xv_core.proofs.Keeping.Calls.{next-legal, waits-in-front}
 use Rattle.xv_core.proofs.keeping_laws.operations_are_legal.Goals as goal
 
 pub returns : goal.returns

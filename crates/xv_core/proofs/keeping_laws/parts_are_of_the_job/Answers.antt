@@ -1,6 +1,6 @@
 use Rattle.xv_base.specs.Units.{Shape}
 use Rattle.xv_model.specs.Job.{IsLegal}
-use Rattle.xv_core.proofs.ConditionsCalls.{source-layout, dest-layout, in-source, in-dest, disk-there, guest-small}
+use Rattle.xv_core.proofs.Keeping.Calls.{source-layout, dest-layout, in-source, in-dest, disk-there, guest-small}
 use Rattle.xv_core.proofs.keeping_laws.parts_are_of_the_job.Goals as goal
 
 pub returns : goal.returns

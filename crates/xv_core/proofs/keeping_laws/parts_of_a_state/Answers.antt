@@ -1,4 +1,4 @@
-use Rattle.xv_core.proofs.Joined.{is_source_of, is_dest_of, shows, has_source_bytes, has_dest_bytes}
+use Rattle.xv_core.proofs.Keeping.Joined.{is_source_of, is_dest_of, shows, has_source_bytes, has_dest_bytes}
 use Rattle.xv_core.proofs.keeping_laws.parts_of_a_state.Goals as goal
 
 pub returns : goal.returns

@@ -1,4 +1,4 @@
-use Rattle.xv_core.proofs.ConditionsReads.{reads-fit, next-read-fits, running-reads-fit, told-reads-fit, told-read-fits}
+use Rattle.xv_core.proofs.Keeping.Reads.{reads-fit, next-read-fits, running-reads-fit, told-reads-fit, told-read-fits}
 use Rattle.xv_core.proofs.keeping_laws.reads_fit.Goals as goal
 
 pub returns : goal.returns

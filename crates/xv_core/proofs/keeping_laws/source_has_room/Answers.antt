@@ -1,4 +1,4 @@
-use Rattle.xv_core.proofs.ConditionsCalls.{stream-there, is-most, source-has-room}
+use Rattle.xv_core.proofs.Keeping.Calls.{stream-there, is-most, source-has-room}
 use Rattle.xv_core.proofs.keeping_laws.source_has_room.Goals as goal
 
 pub returns : goal.returns

@@ -1,4 +1,4 @@
-use Rattle.xv_core.proofs.Joined.{joined, joined-contents}
+use Rattle.xv_core.proofs.Keeping.Joined.{joined, joined-contents}
 use Rattle.xv_core.proofs.keeping_laws.state_of_its_parts.Goals as goal
 
 pub returns : goal.returns

@@ -1,4 +1,4 @@
-use Rattle.xv_core.proofs.Stays.{stays}
+use Rattle.xv_core.proofs.Stepped.Stays.{stays}
 use Rattle.xv_core.proofs.laws.events_leave_all_kept.Goals as goal
 
 pub returns : goal.returns

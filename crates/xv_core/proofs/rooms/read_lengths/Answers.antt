@@ -2,7 +2,7 @@ use Rattle.std.proofs.Common.{List, ◌∙◌, sum_by, ap, arith}
 use Rattle.xv_trace.specs.OpText.{Program}
 use Rattle.xv_job.specs.Written.{Written, job_of}
 use Rattle.xv_core.specs.Reads.{read_lengths}
-use Rattle.xv_core.proofs.SumsOf.{sum-all, reads_of, all-reads}
+use Rattle.xv_core.proofs.Totals.SumsOf.{sum-all, reads_of, all-reads}
 use Rattle.xv_core.proofs.rooms.read_lengths.Goals as goal
 
 pub returns : goal.returns

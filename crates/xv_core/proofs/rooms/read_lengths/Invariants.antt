@@ -1,5 +1,5 @@
 use Rattle.std.proofs.Common.{◌≡◌, ◌≤◌, ◌*◌, ◌^◌, take, sum_by}
-use Rattle.xv_core.proofs.SumsOf.{reads_of}
+use Rattle.xv_core.proofs.Totals.SumsOf.{reads_of}
 use Rattle.xv_core.proofs.rooms.read_lengths.Given as goal
 
 abbrev pub invariant-loop-trace : goal.invariant-loop-trace

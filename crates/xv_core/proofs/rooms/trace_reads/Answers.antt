@@ -2,7 +2,7 @@ use Rattle.std.proofs.Common.{◌∙◌, arith}
 use Rattle.xv_trace.specs.Operations.{all_unit_operations}
 use Rattle.xv_trace.proofs.Counts.{length-all_unit_operations}
 use Rattle.xv_core.specs.Reads.{read_length}
-use Rattle.xv_core.proofs.SumsOf.{sum-all}
+use Rattle.xv_core.proofs.Totals.SumsOf.{sum-all}
 use Rattle.xv_core.proofs.rooms.trace_reads.Goals as goal
 
 pub returns-clause-exactly : goal.returns-clause-exactly

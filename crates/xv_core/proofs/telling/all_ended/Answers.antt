@@ -2,7 +2,7 @@ use Rattle.std.proofs.Common.{◌∙◌, sym, ap, arith}
 use Rattle.std.specs.Prelude.{◌≡◌, ◌<◌, ℕ, ◌+◌, nat_le, length, get_or, []}
 use Rattle.xv_model.specs.Guest.{ended}
 use Rattle.xv_job.specs.Written.{job_of}
-use Rattle.xv_core.proofs.Told.{not-ended, each-ended}
+use Rattle.xv_core.proofs.Totals.Told.{not-ended, each-ended}
 use Rattle.xv_core.proofs.telling.all_ended.Goals as goal
 
 pub returns-then-not-has_ended : goal.returns-then-not-has_ended

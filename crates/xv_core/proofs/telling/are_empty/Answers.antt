@@ -1,5 +1,5 @@
 use Rattle.std.proofs.Common.{◌∙◌, sym, arith}
-use Rattle.xv_core.proofs.Told.{not-empty, each-empty}
+use Rattle.xv_core.proofs.Totals.Told.{not-empty, each-empty}
 use Rattle.xv_core.proofs.telling.are_empty.Goals as goal
 
 pub returns-then-not-is_empty : goal.returns-then-not-is_empty

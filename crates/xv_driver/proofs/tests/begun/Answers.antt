@@ -2,7 +2,7 @@ use Rattle.std.proofs.Common.{List, ◌∙◌, ap}
 use Rattle.xv_base.specs.declared.pattern.Init.{Init}
 use Rattle.xv_device.specs.Memory.{Device, fresh}
 use Rattle.xv_job.specs.Written.{Written, job_of}
-use Rattle.xv_core.proofs.InMemory.{begins-with}
+use Rattle.xv_core.proofs.Beginning.InMemory.{begins-with}
 use Rattle.xv_driver.proofs.tests.begun.Goals as goal
 
 pub start-requires-clause-first : goal.start-requires-clause-first

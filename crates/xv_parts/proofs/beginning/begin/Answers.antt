@@ -1,7 +1,7 @@
 use Rattle.std.proofs.Common.{◌∙◌, ap}
 use Rattle.xv_device.specs.Memory.{Device}
 use Rattle.xv_job.specs.Written.{job_of}
-use Rattle.xv_core.proofs.InMemory.{begins-with}
+use Rattle.xv_core.proofs.Beginning.InMemory.{begins-with}
 use Rattle.xv_parts.specs.Plans.{source_plan}
 use Rattle.xv_parts.proofs.Begun.{wires-long, wires-fit, begun-is}
 use Rattle.xv_parts.proofs.beginning.begin.Goals as goal

@@ -1,6 +1,6 @@
 use Rattle.std.proofs.Common.{codes, refl}
 use Rattle.xv_report.specs.Texts.{side_text}
-use Rattle.xv_report.proofs.Took.{front-last}
+use Rattle.xv_io.proofs.Took.{front-last}
 use Rattle.xv_report.proofs.image.write_image.Goals as goal
 
 pub returns-clause-front : goal.returns-clause-front

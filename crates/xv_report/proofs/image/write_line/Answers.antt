@@ -1,6 +1,7 @@
 use Rattle.std.proofs.Common.{◌++◌, ◌∷◌, [], sym, ◌∙◌, append_assoc}
 use Rattle.xv_base.specs.Hex.{hex}
-use Rattle.xv_report.proofs.Took.{front-first, front-then, front-last, took-both, line_parts, at_text, took-text}
+use Rattle.xv_io.proofs.Took.{front-first, front-then, front-last, took-both, at_text, took-text}
+use Rattle.xv_report.proofs.Took.{line_parts}
 use Rattle.xv_report.proofs.image.write_line.Goals as goal
 
 pub returns-in_err-write_text-clause-front : goal.returns-in_err-write_text-clause-front

@@ -2,7 +2,7 @@ use Rattle.std.proofs.Common.{List, ℕ, ◌++◌, codes, decimal, refl, ap, ◌
 use Rattle.std.specs.List.{flat_map}
 use Rattle.xv_report.specs.Texts.{row, worker_row}
 use Rattle.xv_report.specs.Workers.{Tally}
-use Rattle.xv_report.proofs.Took.{front-last, took-text, at_text}
+use Rattle.xv_io.proofs.Took.{front-last, took-text, at_text}
 use Rattle.xv_report.proofs.report.write_counts.Goals as goal
 
 pub returns-clause-front : goal.returns-clause-front

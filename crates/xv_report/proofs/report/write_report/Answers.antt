@@ -1,6 +1,6 @@
 use Rattle.std.proofs.Common.{◌∙◌}
 use Rattle.std.proofs.lemmas.Result.{on_ok_weaker}
-use Rattle.xv_report.proofs.Took.{took-text, at_text}
+use Rattle.xv_io.proofs.Took.{took-text, at_text}
 use Rattle.xv_report.proofs.Reports.{plain-front, report-whole, report-front}
 use Rattle.xv_report.proofs.report.write_report.Goals as goal
 

@@ -1,6 +1,7 @@
 use Rattle.std.proofs.Common.{◌∙◌, arith}
 use Rattle.xv_report.specs.Texts.{worker_row}
-use Rattle.xv_report.proofs.Took.{rows-front, at_text}
+use Rattle.xv_io.proofs.Took.{at_text}
+use Rattle.xv_report.proofs.Took.{rows-front}
 use Rattle.xv_report.proofs.report.write_workers.Goals as goal
 
 pub returns-in_err-write_text-clause-front : goal.returns-in_err-write_text-clause-front

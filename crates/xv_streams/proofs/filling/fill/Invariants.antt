@@ -1,5 +1,5 @@
 use Rattle.std.proofs.Common.{◌≡◌, ◌-◌, ◌≤◌, ◌++◌, length, take}
-use Rattle.xv_streams.specs.Taking.{Taking}
+use Rattle.xv_streams.proofs.Takes.{Taking}
 use Rattle.xv_streams.proofs.filling.fill.Given as goal
 
 abbrev pub invariant-loop-count : goal.invariant-loop-count

@@ -3,7 +3,7 @@ use Rattle.std.specs.Prelude.{None}
 use Rattle.xv_io.specs.Io.{TookMore}
 use Rattle.xv_model.specs.Job.{unit_count}
 use Rattle.xv_report.specs.Texts.{report_text}
-use Rattle.xv_report.proofs.Took.{took-both, took-text, at_text, front-first, front-last}
+use Rattle.xv_io.proofs.Took.{took-both, took-text, at_text, front-first, front-last}
 use Rattle.xv_job.specs.Written.{job_of}
 use Rattle.xv_top.specs.Driven.{agree_line, agreed_text}
 use Rattle.xv_top.proofs.Driven.{agreed-is, line-is}

@@ -1,6 +1,6 @@
 use Rattle.std.proofs.Common.{List, ℕ, refl, subst, ◌∙◌}
 use Rattle.xv_io.specs.Io.{TookFront}
-use Rattle.xv_report.proofs.Took.{front-last}
+use Rattle.xv_io.proofs.Took.{front-last}
 use Rattle.xv_handover.specs.Lines.{transcript, nodes_text}
 use Rattle.xv_top.proofs.Played.{err-with}
 use Rattle.xv_top.proofs.handover.write_world.Goals as goal

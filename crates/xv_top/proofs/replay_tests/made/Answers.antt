@@ -3,7 +3,7 @@ use Rattle.xv_base.specs.declared.pattern.Init.{Init}
 use Rattle.xv_device.specs.Device.{Plan}
 use Rattle.xv_device.specs.Memory.{Device, fresh}
 use Rattle.xv_job.specs.Written.{Written, job_of}
-use Rattle.xv_core.proofs.InMemory.{begins-with}
+use Rattle.xv_core.proofs.Beginning.InMemory.{begins-with}
 use Rattle.xv_top.proofs.replay_tests.made.Goals as goal
 
 abbrev no_fault : Plan

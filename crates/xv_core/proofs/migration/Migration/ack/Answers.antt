@@ -1,11 +1,11 @@
 use Rattle.std.proofs.Common.{refl, sym, ◌∙◌}
 use Rattle.xv_base.specs.declared.event.Event.TheVariants.{Ack}
 use Rattle.xv_core.specs.State.{state_of}
-use Rattle.xv_core.proofs.ConditionsCalls.{ack-has-room}
-use Rattle.xv_core.proofs.CountsRoom.{back-countable}
-use Rattle.xv_core.proofs.MovedByDest.{after_ack}
-use Rattle.xv_core.proofs.MovedEvents.{ack-of, waits-not-live}
-use Rattle.xv_core.proofs.MovedSettled.{room-for, stays-settled, steps-settled, rooms-stay}
+use Rattle.xv_core.proofs.Keeping.Calls.{ack-has-room}
+use Rattle.xv_core.proofs.Counting.Room.{back-countable}
+use Rattle.xv_core.proofs.MovingEvents.ByDest.{after_ack}
+use Rattle.xv_core.proofs.MovingEvents.Events.{ack-of, waits-not-live}
+use Rattle.xv_core.proofs.MovingEvents.Settled.{room-for, stays-settled, steps-settled, rooms-stay}
 use Rattle.xv_core.proofs.migration.Migration.ack.Goals as goal
 
 pub returns-then-not-is_live : goal.returns-then-not-is_live

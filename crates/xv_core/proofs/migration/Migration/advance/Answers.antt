@@ -1,10 +1,10 @@
 use Rattle.std.proofs.Common.{refl}
 use Rattle.xv_base.specs.declared.event.Event.TheVariants.{Advance}
 use Rattle.xv_core.specs.State.{state_of}
-use Rattle.xv_core.proofs.ConditionsCounts.{few-versions}
-use Rattle.xv_core.proofs.SourceEvents.{disk-of-half, advance-of}
-use Rattle.xv_core.proofs.SourceSettled.{room-for, stays-settled, steps-settled, rooms-stay}
-use Rattle.xv_core.proofs.SourceWaits.{copy-not-now, waits-as}
+use Rattle.xv_core.proofs.Keeping.Counts.{few-versions}
+use Rattle.xv_core.proofs.CopyingEvents.SourceEvents.{disk-of-half, advance-of}
+use Rattle.xv_core.proofs.CopyingEvents.SourceSettled.{room-for, stays-settled, steps-settled, rooms-stay}
+use Rattle.xv_core.proofs.CopyingEvents.SourceWaits.{copy-not-now, waits-as}
 use Rattle.xv_core.proofs.migration.Migration.advance.Goals as goal
 
 pub advance-turn-requires-clause-disk_in : goal.advance-turn-requires-clause-disk_in

@@ -1,12 +1,12 @@
 use Rattle.std.proofs.Common.{false, refl, sym, ◌∙◌}
 use Rattle.xv_base.specs.declared.event.Event.TheVariants.{Apply}
 use Rattle.xv_core.specs.State.{state_of}
-use Rattle.xv_core.proofs.ConditionsCalls.{apply-few}
-use Rattle.xv_core.proofs.CountsRoom.{dest-countable}
-use Rattle.xv_core.proofs.MovedByDest.{after_apply}
-use Rattle.xv_core.proofs.MovedEvents.{apply-of, none-seen, apply-live}
-use Rattle.xv_core.proofs.MovedSettled.{room-for, stays-settled, steps-settled, rooms-stay}
-use Rattle.xv_core.proofs.OperationSteps.{stays-waiting}
+use Rattle.xv_core.proofs.Keeping.Calls.{apply-few}
+use Rattle.xv_core.proofs.Counting.Room.{dest-countable}
+use Rattle.xv_core.proofs.MovingEvents.ByDest.{after_apply}
+use Rattle.xv_core.proofs.MovingEvents.Events.{apply-of, none-seen, apply-live}
+use Rattle.xv_core.proofs.MovingEvents.Settled.{room-for, stays-settled, steps-settled, rooms-stay}
+use Rattle.xv_core.proofs.GuestEvents.OperationSteps.{stays-waiting}
 use Rattle.xv_core.proofs.migration.Migration.apply.Goals as goal
 
 pub returns-in-Some : goal.returns-in-Some

@@ -1,9 +1,9 @@
 use Rattle.std.proofs.Common.{refl}
 use Rattle.xv_base.specs.declared.event.Event.TheVariants.{Begin}
 use Rattle.xv_core.specs.State.{state_of}
-use Rattle.xv_core.proofs.SourceEvents.{disk-of-half, begin-of}
-use Rattle.xv_core.proofs.SourceSettled.{room-for, stays-settled, steps-settled, rooms-stay}
-use Rattle.xv_core.proofs.SourceWaits.{copy-not-now, waits-as}
+use Rattle.xv_core.proofs.CopyingEvents.SourceEvents.{disk-of-half, begin-of}
+use Rattle.xv_core.proofs.CopyingEvents.SourceSettled.{room-for, stays-settled, steps-settled, rooms-stay}
+use Rattle.xv_core.proofs.CopyingEvents.SourceWaits.{copy-not-now, waits-as}
 use Rattle.xv_core.proofs.migration.Migration.begin.Goals as goal
 
 pub begin-turn-requires : goal.begin-turn-requires

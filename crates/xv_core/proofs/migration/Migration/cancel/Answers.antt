@@ -2,9 +2,9 @@ use Rattle.std.proofs.Common.{refl}
 use Rattle.xv_base.specs.declared.event.Event.TheVariants.{Cancel}
 use Rattle.xv_base.specs.declared.event.Phase.TheVariants.{Cancelled}
 use Rattle.xv_core.specs.State.{state_of}
-use Rattle.xv_core.proofs.Cancelling.{room-to-cancel, stays-cancelled, steps-cancelled}
-use Rattle.xv_core.proofs.SourceSettled.{rooms-stay}
-use Rattle.xv_core.proofs.SourceWaits.{cancel-not-come, cancel-not-live, waits-as}
+use Rattle.xv_core.proofs.CopyingEvents.Cancelling.{room-to-cancel, stays-cancelled, steps-cancelled}
+use Rattle.xv_core.proofs.CopyingEvents.SourceSettled.{rooms-stay}
+use Rattle.xv_core.proofs.CopyingEvents.SourceWaits.{cancel-not-come, cancel-not-live, waits-as}
 use Rattle.xv_core.proofs.migration.Migration.cancel.Goals as goal
 
 pub returns-then-not-reaches_cancel : goal.returns-then-not-reaches_cancel

@@ -1,5 +1,5 @@
 use Rattle.xv_core.specs.State.{state_of}
-use Rattle.xv_core.proofs.SourceWaits.{copy-not-now, copy-of-source, copy-waits, seen-waits}
+use Rattle.xv_core.proofs.CopyingEvents.SourceWaits.{copy-not-now, copy-of-source, copy-waits, seen-waits}
 use Rattle.xv_core.proofs.migration.Migration.copy_wait.Goals as goal
 
 pub returns-then-not-is_asked : goal.returns-then-not-is_asked
@@ -18,4 +18,4 @@ pub returns : goal.returns
 returns g c =
     let h = c.self.inside in
     let s = state_of h.job h.journal.items h.history.entries h.phase h.stun h.source h.dest h.streams h.back h.reads.items in
-    copy-waits s _ c.args.event c.may_go_beside.result c.waits.result c.self.invariant.0 c.self.view_is c.requires.of_copy c.if-not-is_asked.ensures c.may_go_beside.ensures c.waits.ensures
+    copy-waits s _ c.args.event c.may_go_beside.result c.waits.result c.self.invariant.0 c.self.view_is c.requires.of_copy c.if-not-is_asked.ensures c.may_go_beside.ensures c.waits.ensures.exactly

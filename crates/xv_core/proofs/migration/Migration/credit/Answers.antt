@@ -1,10 +1,10 @@
 use Rattle.std.proofs.Common.{refl, sym, ◌∙◌}
 use Rattle.xv_base.specs.declared.event.Event.TheVariants.{Credit}
 use Rattle.xv_core.specs.State.{state_of}
-use Rattle.xv_core.proofs.ConditionsCalls.{credit-within}
-use Rattle.xv_core.proofs.MovedBySource.{after_credit}
-use Rattle.xv_core.proofs.MovedEvents.{credit-of, waits-not-live}
-use Rattle.xv_core.proofs.MovedSettled.{room-for, stays-settled, steps-settled, rooms-stay}
+use Rattle.xv_core.proofs.Keeping.Calls.{credit-within}
+use Rattle.xv_core.proofs.MovingEvents.BySource.{after_credit}
+use Rattle.xv_core.proofs.MovingEvents.Events.{credit-of, waits-not-live}
+use Rattle.xv_core.proofs.MovingEvents.Settled.{room-for, stays-settled, steps-settled, rooms-stay}
 use Rattle.xv_core.proofs.migration.Migration.credit.Goals as goal
 
 pub returns-then-not-is_live : goal.returns-then-not-is_live

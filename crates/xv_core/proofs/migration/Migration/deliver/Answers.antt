@@ -1,10 +1,10 @@
 use Rattle.std.proofs.Common.{refl, sym, ◌∙◌}
 use Rattle.xv_base.specs.declared.event.Event.TheVariants.{Deliver}
 use Rattle.xv_core.specs.State.{state_of}
-use Rattle.xv_core.proofs.ConditionsCalls.{can-take}
-use Rattle.xv_core.proofs.MovedByDest.{after_deliver}
-use Rattle.xv_core.proofs.MovedEvents.{deliver-of, waits-not-live}
-use Rattle.xv_core.proofs.MovedSettled.{room-for, stays-settled, steps-settled, rooms-stay}
+use Rattle.xv_core.proofs.Keeping.Calls.{can-take}
+use Rattle.xv_core.proofs.MovingEvents.ByDest.{after_deliver}
+use Rattle.xv_core.proofs.MovingEvents.Events.{deliver-of, waits-not-live}
+use Rattle.xv_core.proofs.MovingEvents.Settled.{room-for, stays-settled, steps-settled, rooms-stay}
 use Rattle.xv_core.proofs.migration.Migration.deliver.Goals as goal
 
 pub returns-then-not-is_live : goal.returns-then-not-is_live

@@ -1,4 +1,4 @@
-use Rattle.xv_core.proofs.OperationSteps.{stays-waiting}
+use Rattle.xv_core.proofs.GuestEvents.OperationSteps.{stays-waiting}
 use Rattle.xv_core.proofs.migration.Migration.guest.Goals as goal
 
 pub returns-in-Some : goal.returns-in-Some

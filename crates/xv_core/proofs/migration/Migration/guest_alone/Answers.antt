@@ -1,8 +1,8 @@
 use Rattle.std.proofs.Common.{List, ℕ, length, arith, ap, ◌∙◌}
 use Rattle.xv_core.specs.Answered.{read_by}
-use Rattle.xv_core.proofs.CountsRoom.{source-countable}
-use Rattle.xv_core.proofs.OperationSteps.{rooms, rooms-stay, finishes, read-from, lent-back}
-use Rattle.xv_core.proofs.GuestTurns.{alone-answers}
+use Rattle.xv_core.proofs.Counting.Room.{source-countable}
+use Rattle.xv_core.proofs.GuestEvents.OperationSteps.{rooms, rooms-stay, finishes, read-from, lent-back}
+use Rattle.xv_core.proofs.GuestEvents.Turns.{alone-answers}
 use Rattle.xv_core.proofs.migration.Migration.guest_alone.Goals as goal
 
 pub guest_alone-turn-requires-clause-countable : goal.guest_alone-turn-requires-clause-countable

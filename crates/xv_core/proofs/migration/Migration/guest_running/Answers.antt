@@ -1,9 +1,9 @@
 use Rattle.std.proofs.Common.{List, ℕ, length, arith, ap, ◌∙◌}
 use Rattle.xv_core.specs.Answered.{read_by}
-use Rattle.xv_core.proofs.ConditionsCounts.{few-versions}
-use Rattle.xv_core.proofs.CountsRoom.{source-countable}
-use Rattle.xv_core.proofs.OperationSteps.{rooms, rooms-stay, finishes, read-from, lent-back}
-use Rattle.xv_core.proofs.GuestTurns.{running-answers}
+use Rattle.xv_core.proofs.Keeping.Counts.{few-versions}
+use Rattle.xv_core.proofs.Counting.Room.{source-countable}
+use Rattle.xv_core.proofs.GuestEvents.OperationSteps.{rooms, rooms-stay, finishes, read-from, lent-back}
+use Rattle.xv_core.proofs.GuestEvents.Turns.{running-answers}
 use Rattle.xv_core.proofs.migration.Migration.guest_running.Goals as goal
 
 pub guest-turn-requires-clause-few : goal.guest-turn-requires-clause-few

@@ -1,8 +1,8 @@
 use Rattle.std.proofs.Common.{List, ℕ, length, arith, ap, ◌∙◌}
 use Rattle.xv_core.specs.Answered.{read_by}
-use Rattle.xv_core.proofs.CountsRoom.{dest-countable}
-use Rattle.xv_core.proofs.OperationSteps.{rooms, rooms-stay, finishes, read-from, lent-back}
-use Rattle.xv_core.proofs.GuestTurns.{dest-answers}
+use Rattle.xv_core.proofs.Counting.Room.{dest-countable}
+use Rattle.xv_core.proofs.GuestEvents.OperationSteps.{rooms, rooms-stay, finishes, read-from, lent-back}
+use Rattle.xv_core.proofs.GuestEvents.Turns.{dest-answers}
 use Rattle.xv_core.proofs.migration.Migration.guest_taken_over.Goals as goal
 
 pub guest-turn-requires-clause-countable : goal.guest-turn-requires-clause-countable

@@ -1,4 +1,4 @@
-use Rattle.xv_core.proofs.Begun.{begins}
+use Rattle.xv_core.proofs.Beginning.Begun.{begins}
 use Rattle.xv_core.proofs.migration.Migration.join.Goals as goal
 
 pub invariant_of-result : goal.invariant_of-result

@@ -1,4 +1,4 @@
-use Rattle.xv_core.proofs.SeenKept.{kept-seen}
+use Rattle.xv_core.proofs.Keeping.SeenKept.{kept-seen}
 use Rattle.xv_core.proofs.migration.Migration.journal.Goals as goal
 
 pub returns-clause-kept : goal.returns-clause-kept

@@ -1,11 +1,11 @@
 use Rattle.std.proofs.Common.{refl}
 use Rattle.xv_base.specs.declared.event.Event.TheVariants.{Page}
 use Rattle.xv_core.specs.State.{state_of}
-use Rattle.xv_core.proofs.ConditionsCounts.{few-versions}
-use Rattle.xv_core.proofs.CountsRoom.{source-countable}
-use Rattle.xv_core.proofs.SourceEvents.{page-of}
-use Rattle.xv_core.proofs.SourceSettled.{room-for, stays-settled, steps-settled, rooms-stay}
-use Rattle.xv_core.proofs.SourceWaits.{copy-not-now, waits-as}
+use Rattle.xv_core.proofs.Keeping.Counts.{few-versions}
+use Rattle.xv_core.proofs.Counting.Room.{source-countable}
+use Rattle.xv_core.proofs.CopyingEvents.SourceEvents.{page-of}
+use Rattle.xv_core.proofs.CopyingEvents.SourceSettled.{room-for, stays-settled, steps-settled, rooms-stay}
+use Rattle.xv_core.proofs.CopyingEvents.SourceWaits.{copy-not-now, waits-as}
 use Rattle.xv_core.proofs.migration.Migration.page.Goals as goal
 
 pub page-turn-requires-clause-few : goal.page-turn-requires-clause-few

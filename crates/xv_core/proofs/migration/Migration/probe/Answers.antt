@@ -1,5 +1,5 @@
 use Rattle.std.proofs.Common.{arith}
-use Rattle.xv_core.proofs.Told.{unit-adds, probe-told}
+use Rattle.xv_core.proofs.Totals.Told.{unit-adds, probe-told}
 use Rattle.xv_core.proofs.migration.Migration.probe.Goals as goal
 
 pub overflow_sub-result : goal.overflow_sub-result

@@ -1,6 +1,6 @@
 use Rattle.std.proofs.Common.{◌∙◌, length, sym, ap}
 use Rattle.xv_base.specs.Units.{Shape}
-use Rattle.xv_core.proofs.Issued.{few-in-all}
+use Rattle.xv_core.proofs.Totals.Issued.{few-in-all}
 use Rattle.xv_core.proofs.migration.Migration.queues_empty.Goals as goal
 
 pub are_empty-requires : goal.are_empty-requires

@@ -1,10 +1,10 @@
 use Rattle.std.proofs.Common.{refl}
 use Rattle.xv_base.specs.declared.event.Event.TheVariants.{Read}
 use Rattle.xv_core.specs.State.{state_of}
-use Rattle.xv_core.proofs.CountsRoom.{source-countable}
-use Rattle.xv_core.proofs.SourceEvents.{disk-of-half, read-of}
-use Rattle.xv_core.proofs.SourceSettled.{room-for, stays-settled, steps-settled, rooms-stay}
-use Rattle.xv_core.proofs.SourceWaits.{copy-not-now, waits-as}
+use Rattle.xv_core.proofs.Counting.Room.{source-countable}
+use Rattle.xv_core.proofs.CopyingEvents.SourceEvents.{disk-of-half, read-of}
+use Rattle.xv_core.proofs.CopyingEvents.SourceSettled.{room-for, stays-settled, steps-settled, rooms-stay}
+use Rattle.xv_core.proofs.CopyingEvents.SourceWaits.{copy-not-now, waits-as}
 use Rattle.xv_core.proofs.migration.Migration.read.Goals as goal
 
 pub read-turn-requires-clause-disk_in : goal.read-turn-requires-clause-disk_in

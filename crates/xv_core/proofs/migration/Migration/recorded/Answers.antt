@@ -1,6 +1,6 @@
 use Rattle.std.proofs.Common.{arith}
-use Rattle.xv_core.proofs.Told.{some-is}
-use Rattle.xv_core.proofs.Issued.{few-in-all}
+use Rattle.xv_core.proofs.Totals.Told.{some-is}
+use Rattle.xv_core.proofs.Totals.Issued.{few-in-all}
 use Rattle.xv_core.proofs.migration.Migration.recorded.Goals as goal
 
 pub overflow_cast-result : goal.overflow_cast-result

@@ -1,6 +1,6 @@
 use Rattle.std.proofs.Common.{sym, ◌∙◌}
-use Rattle.xv_core.proofs.OperationSteps.{stays-waiting}
-use Rattle.xv_core.proofs.ReleaseTurns.{disks-there, nothing-there, due-waits, first-in-view}
+use Rattle.xv_core.proofs.GuestEvents.OperationSteps.{stays-waiting}
+use Rattle.xv_core.proofs.GuestEvents.ReleaseTurns.{disks-there, nothing-there, due-waits, first-in-view}
 use Rattle.xv_core.proofs.migration.Migration.release.Goals as goal
 
 pub front-requires : goal.front-requires

@@ -1,9 +1,9 @@
 use Rattle.std.proofs.Common.{sym, arith, refl}
 use Rattle.std.proofs.lemmas.List.{append-nil}
-use Rattle.xv_core.proofs.ConditionsCounts.{few-versions}
-use Rattle.xv_core.proofs.CountsRoom.{source-countable}
-use Rattle.xv_core.proofs.OperationSteps.{rooms, rooms-stay, finishes}
-use Rattle.xv_core.proofs.ReleaseTurns.{has-more, ready, release-running-answers}
+use Rattle.xv_core.proofs.Keeping.Counts.{few-versions}
+use Rattle.xv_core.proofs.Counting.Room.{source-countable}
+use Rattle.xv_core.proofs.GuestEvents.OperationSteps.{rooms, rooms-stay, finishes}
+use Rattle.xv_core.proofs.GuestEvents.ReleaseTurns.{has-more, ready, release-running-answers}
 use Rattle.xv_core.proofs.migration.Migration.release_running.Goals as goal
 
 pub next_operation-op-requires : goal.next_operation-op-requires
@@ -50,7 +50,7 @@ invariant_of-self g c =
     (record { there = c.requires.there; first = c.requires.first; not_due = c.requires.not_due; next = c.next_operation-op.ensures }) c.requires.running c.release-turn.ensures.step c.release-turn.ensures.call in
     let end = finishes _ c.args.self.now _ _ _ _ _ _ c.enter.new.journal.items c.end.new.history.entries c.self.inside.reads.items c.self.invariant.0 c.self.view_is answers c.enter.ensures.journal c.end.ensures.entries
     (sym (append-nil c.self.inside.reads.items)) in
-    (end.kept, rooms-stay c.self.inside.job _ _ _ _ _ _ _ _ c.self.invariant.1 c.end.ensures.room c.enter.ensures.reserved (omega arith) refl)
+    (end.kept, rooms-stay c.self.inside.job _ _ _ _ _ _ _ _ c.self.invariant.1 c.end.ensures.room c.enter.ensures.reserved refl refl)
 
 pub returns : goal.returns
 returns g c =

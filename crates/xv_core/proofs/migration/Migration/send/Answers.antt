@@ -1,10 +1,10 @@
 use Rattle.std.proofs.Common.{refl, sym, ◌∙◌}
 use Rattle.xv_base.specs.declared.event.Event.TheVariants.{Send}
 use Rattle.xv_core.specs.State.{state_of}
-use Rattle.xv_core.proofs.ConditionsCalls.{source-has-room}
-use Rattle.xv_core.proofs.MovedBySource.{after_send}
-use Rattle.xv_core.proofs.MovedEvents.{stream-seen, lane-countable, send-of, waits-not-live}
-use Rattle.xv_core.proofs.MovedSettled.{room-for, stays-settled, steps-settled, rooms-stay}
+use Rattle.xv_core.proofs.Keeping.Calls.{source-has-room}
+use Rattle.xv_core.proofs.MovingEvents.BySource.{after_send}
+use Rattle.xv_core.proofs.MovingEvents.Events.{stream-seen, lane-countable, send-of, waits-not-live}
+use Rattle.xv_core.proofs.MovingEvents.Settled.{room-for, stays-settled, steps-settled, rooms-stay}
 use Rattle.xv_core.proofs.migration.Migration.send.Goals as goal
 
 pub returns-then-not-is_live : goal.returns-then-not-is_live

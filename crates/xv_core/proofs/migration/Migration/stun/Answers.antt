@@ -2,9 +2,9 @@ use Rattle.std.proofs.Common.{Some, refl, ap}
 use Rattle.xv_base.specs.declared.event.Event.TheVariants.{Stun}
 use Rattle.xv_model.specs.Step.{is_wait}
 use Rattle.xv_core.specs.State.{state_of}
-use Rattle.xv_core.proofs.SourceEvents.{stun-of}
-use Rattle.xv_core.proofs.SourceSettled.{room-for, stays-waiting, steps-waiting, stays-stopped, steps-stopped, rooms-stay, no-wait}
-use Rattle.xv_core.proofs.SourceWaits.{stun-not-now, stun-too-early, waits-as}
+use Rattle.xv_core.proofs.CopyingEvents.SourceEvents.{stun-of}
+use Rattle.xv_core.proofs.CopyingEvents.SourceSettled.{room-for, stays-waiting, steps-waiting, stays-stopped, steps-stopped, rooms-stay, no-wait}
+use Rattle.xv_core.proofs.CopyingEvents.SourceWaits.{stun-not-now, stun-too-early, waits-as}
 use Rattle.xv_core.proofs.migration.Migration.stun.Goals as goal
 
 pub returns-then-not-is_running : goal.returns-then-not-is_running

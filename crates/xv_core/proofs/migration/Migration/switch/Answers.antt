@@ -1,11 +1,11 @@
 use Rattle.std.proofs.Common.{refl, sym, ◌∙◌}
 use Rattle.xv_base.specs.declared.event.Event.TheVariants.{Switch}
 use Rattle.xv_core.specs.State.{state_of}
-use Rattle.xv_core.proofs.CountsRoom.{dest-countable}
-use Rattle.xv_core.proofs.MovedByDest.{after_switch}
-use Rattle.xv_core.proofs.MovedEvents.{switch-of, none-seen}
-use Rattle.xv_core.proofs.MovedSettled.{room-for, stays-settled, steps-settled, rooms-stay}
-use Rattle.xv_core.proofs.OperationSteps.{stays-waiting}
+use Rattle.xv_core.proofs.Counting.Room.{dest-countable}
+use Rattle.xv_core.proofs.MovingEvents.ByDest.{after_switch}
+use Rattle.xv_core.proofs.MovingEvents.Events.{switch-of, none-seen}
+use Rattle.xv_core.proofs.MovingEvents.Settled.{room-for, stays-settled, steps-settled, rooms-stay}
+use Rattle.xv_core.proofs.GuestEvents.OperationSteps.{stays-waiting}
 use Rattle.xv_core.proofs.migration.Migration.switch.Goals as goal
 
 pub returns-in-Some : goal.returns-in-Some

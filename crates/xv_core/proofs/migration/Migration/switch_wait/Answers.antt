@@ -1,6 +1,6 @@
 use Rattle.std.proofs.Common.{true, false, sym, ◌∙◌}
 use Rattle.xv_core.specs.State.{state_of}
-use Rattle.xv_core.proofs.MovedWaits.{switch-waits, may-switch-is}
+use Rattle.xv_core.proofs.MovingEvents.Waits.{switch-waits, may-switch-is}
 use Rattle.xv_core.proofs.migration.Migration.switch_wait.Goals as goal
 
 pub returns-then-not-may_switch : goal.returns-then-not-may_switch

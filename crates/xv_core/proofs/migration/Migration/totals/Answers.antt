@@ -1,8 +1,8 @@
 use Rattle.std.proofs.Common.{◌∙◌, ◌-◌, ℕ, length, drop, sym, ap, arith}
 use Rattle.std.specs.Prelude.{sum, count_by, nat_lt}
 use Rattle.xv_base.specs.Units.{Shape, units}
-use Rattle.xv_core.proofs.Told.{count-le-sum, totals-told}
-use Rattle.xv_core.proofs.Issued.{few-in-all}
+use Rattle.xv_core.proofs.Totals.Told.{count-le-sum, totals-told}
+use Rattle.xv_core.proofs.Totals.Issued.{few-in-all}
 use Rattle.xv_core.proofs.migration.Migration.totals.Goals as goal
 
 pub copied-requires-clause-each : goal.copied-requires-clause-each

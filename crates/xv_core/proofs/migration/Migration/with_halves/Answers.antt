@@ -8,7 +8,7 @@ use Rattle.xv_core.specs.Seen.{OnWire}
 use Rattle.xv_core.specs.State.{on_source, on_dest, on_back}
 use Rattle.xv_core.specs.Beginning.{IsWireFor, stream_room, back_room, fresh_wire, begun}
 use Rattle.xv_core.specs.Fresh.{IsFreshLane}
-use Rattle.xv_core.proofs.Begun.{fresh-each, fresh-wires, fresh-back}
+use Rattle.xv_core.proofs.Beginning.Begun.{fresh-each, fresh-wires, fresh-back}
 use Rattle.xv_core.proofs.migration.Migration.with_halves.Goals as goal
 
 pub new-requires-clause-none : goal.new-requires-clause-none

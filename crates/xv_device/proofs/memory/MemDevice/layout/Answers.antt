@@ -5,4 +5,4 @@ use Rattle.xv_device.proofs.Sized.{whole-sized}
 use Rattle.xv_device.proofs.memory.MemDevice.layout.Goals as goal
 
 pub returns-clause-sized : goal.returns-clause-sized
-returns-clause-sized c = subst (λ (d : Device). IsSized (told d)) c.self.view_is (whole-sized _ _ _ c.self.invariant _ _ c.self.inside.faults)
+returns-clause-sized c = subst (λ (d : Device). IsSized (told d)) c.self.view_is (whole-sized _ _ _ c.self.invariant c.self.inside.reading c.self.inside.writing c.self.inside.flushing)

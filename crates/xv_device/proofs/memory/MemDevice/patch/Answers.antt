@@ -1,4 +1,5 @@
-use Rattle.std.proofs.Common.{rules, sym, ◌≡◌, ◌<◌, ◌+◌, ◌≤◌, length, subst, ◌∙◌, refl}
+use Rattle.std.specs.Prelude.{is_err}
+use Rattle.std.proofs.Common.{rules, false, sym, ◌≡◌, ◌<◌, ◌+◌, ◌≤◌, length, subst, ◌∙◌, refl}
 use Rattle.xv_base.specs.Units.{units, size, place}
 use Rattle.std.proofs.lemmas.List.{with_items_is}
 use Rattle.std.specs.Vec.{with_items}
@@ -31,11 +32,12 @@ returns-clause-after c =
     let held : (with_items c.self.inside.bytes c.copy_in.new.bytes).items ≡ patched (place c.self.inside.layout c.args.unit.0 + c.args.offset) c.args.bytes.now c.self.inside.bytes.items =
     with_items_is c.self.inside.bytes c.copy_in.new.bytes (c.copy_in.auto.bytes ∙ c.deref_mut.ensures.len)
     ∙ (rw (← c.place.ensures.exactly, ← c.deref_mut.ensures.value) c.copy_in.ensures) in
-    rw (← c.self.view_is, held, bytes, writes, c.count.ensures.plan, c.count.ensures.calls) refl
+    let ok : is_err c.begin.result ≡ false = search rules in
+    rw (← c.self.view_is, held, bytes, writes, c.begin.ensures.after, ok) refl
 
 pub returns-clause-sized : goal.returns-clause-sized
-returns-clause-sized c = subst (λ (d : Device). IsSized (told d)) c.self.view_is (whole-sized _ _ _ c.self.invariant _ _ c.self.inside.faults)
+returns-clause-sized c = subst (λ (d : Device). IsSized (told d)) c.self.view_is (whole-sized _ _ _ c.self.invariant c.self.inside.reading c.self.inside.writing c.self.inside.flushing)
 
-pub returns-then-count-clause-sized : goal.returns-then-count-clause-sized
-returns-then-count-clause-sized c =
-    subst (λ (d : Device). IsSized (told d)) c.self.view_is (whole-sized _ _ _ c.self.invariant _ _ c.self.inside.faults)
+pub returns-in_err-begin-clause-sized : goal.returns-in_err-begin-clause-sized
+returns-in_err-begin-clause-sized c =
+    subst (λ (d : Device). IsSized (told d)) c.self.view_is (whole-sized _ _ _ c.self.invariant c.self.inside.reading c.self.inside.writing c.self.inside.flushing)

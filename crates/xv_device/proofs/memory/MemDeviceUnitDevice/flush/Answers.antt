@@ -1,5 +1,5 @@
-use Rattle.xv_device.proofs.Made.{after-made}
+use Rattle.xv_device.proofs.Made.{after-made, fails-planned}
 use Rattle.xv_device.proofs.memory.MemDeviceUnitDevice.flush.Goals as goal
 
-pub returns : goal.returns
-returns c = after-made _ _ _ _ c.flush.ensures.after c.flush.ensures.fails
+pub returns-clause-made : goal.returns-clause-made
+returns-clause-made c = after-made _ _ _ _ c.flush.ensures.after c.requires.countable (fails-planned _ c.args.self.now.flushing c.requires.countable c.flush.ensures.fails)

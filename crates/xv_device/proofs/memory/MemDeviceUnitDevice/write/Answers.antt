@@ -1,5 +1,5 @@
-use Rattle.xv_device.proofs.Made.{after-made}
+use Rattle.xv_device.proofs.Made.{after-made, fails-planned}
 use Rattle.xv_device.proofs.memory.MemDeviceUnitDevice.write.Goals as goal
 
 pub returns-clause-made : goal.returns-clause-made
-returns-clause-made c = after-made _ _ _ _ c.write.ensures.after c.write.ensures.fails
+returns-clause-made c = after-made _ _ _ _ c.write.ensures.after c.requires.countable (fails-planned _ c.args.self.now.writing c.requires.countable c.write.ensures.fails)

@@ -15,5 +15,5 @@ pub invariant_of-self : goal.invariant_of-self
 invariant_of-self c =
     let guest : c.args.ended.guest.0 < 2 ^ 8 = search rules in
     let room : length c.self.inside.entries.items < c.self.inside.room = subst (λ (v : Log). length v.entries < v.room) (sym c.self.view_is) c.requires in
-    let items : c.push.new.self.items ≡ c.self.inside.entries.items ++ c.args.ended ∷ [] = grind (arith, common_steps) in
-    rw items (counted-push _ _ _ _ _ _ c.args.ended _ _ c.self.invariant room c.push.ensures.capacity guest c.index_mut.ensures.value c.fault_count.ensures)
+    let items : c.push_reserved.new.self.items ≡ c.self.inside.entries.items ++ c.args.ended ∷ [] = grind (arith, common_steps) in
+    rw items (counted-push _ _ _ _ _ _ c.args.ended _ _ c.self.invariant room c.push_reserved.ensures.capacity guest c.index_mut.ensures.value c.fault_count.ensures)

@@ -1,9 +1,13 @@
-use Rattle.std.proofs.Common.{rules, ◌≡◌, count_by, ap, ◌∙◌}
+use Rattle.std.proofs.Common.{rules, ◌≡◌, get_or, ap, sym, ◌∙◌}
 use Rattle.xv_hold.specs.Messages.{Hold, count}
-use Rattle.xv_hold.specs.Kept.{has_unit}
 use Rattle.xv_hold.proofs.hold.Hold.count.Goals as goal
 
-pub returns : goal.returns
-returns c =
-    let counted : c.count.result ≡ count_by (has_unit c.args.unit.0) c.self.inside.slots.items = search rules in
-    counted ∙ c.self.invariant.0.counts c.args.unit.0 ∙ ap (λ (v : Hold). count v c.args.unit.0) c.self.view_is
+pub returns-in-Some : goal.returns-in-Some
+returns-in-Some c =
+    let read : c.in-Some.count.now ≡ get_or c.self.inside.counts.items c.args.unit.0 0 = search rules in
+    read ∙ c.self.invariant.0.counted c.args.unit.0 ∙ ap (λ (v : Hold). count v c.args.unit.0) c.self.view_is
+
+pub returns-in-None : goal.returns-in-None
+returns-in-None c =
+    let past : get_or c.self.inside.counts.items c.args.unit.0 0 ≡ 0 = search rules in
+    sym past ∙ c.self.invariant.0.counted c.args.unit.0 ∙ ap (λ (v : Hold). count v c.args.unit.0) c.self.view_is

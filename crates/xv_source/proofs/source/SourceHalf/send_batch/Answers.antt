@@ -4,7 +4,7 @@ use Rattle.xv_streams.specs.Streamed.{lane}
 use Rattle.xv_streams.specs.Fronts.{PutsGroup}
 use Rattle.xv_source.specs.Half.{Source}
 use Rattle.xv_source.specs.Step.{joined_messages}
-use Rattle.xv_source.proofs.Batching.{batch-framed, past-seen}
+use Rattle.xv_source.proofs.Batching.{batch-back, past-seen}
 use Rattle.xv_source.proofs.source.SourceHalf.send_batch.Goals as goal
 
 pub returns-in-Ok-clause-sent : goal.returns-in-Ok-clause-sent
@@ -14,5 +14,5 @@ returns-in-Ok-clause-sent g c =
 
 pub returns-in-Ok-clause-put : goal.returns-in-Ok-clause-put
 returns-in-Ok-clause-put g c =
-    let same = sym (batch-framed c.self.inside.outbox.messages c.args.count) ∙ ap (λ (h : Source). take c.args.count (joined_messages h.messages h.contents)) c.self.view_is in
+    let same = sym (batch-back c.self.inside.outbox.messages c.args.count) ∙ ap (λ (h : Source). take c.args.count (joined_messages h.messages h.contents)) c.self.view_is in
     subst (λ (x : List Message). PutsGroup c.args.streams.now.format x false (lane c.args.streams.now c.args.stream) (lane c.put_batch.new.streams c.args.stream)) same c.in-Ok.ensures.put

@@ -1,0 +1,4 @@
+-- How a migration begins.
+pub mod KeepsStart
+pub mod Begun
+pub mod InMemory
