@@ -1,5 +1,4 @@
 pub mod Aborts
-pub mod Progress
 pub mod Sayings
 pub mod Scripts
 pub mod Sound

@@ -1,5 +1,5 @@
 -- The words of a script one by one: how each is spelled, what it says, and by which word each line is said.
-use Rattle.std.proofs.Common.{◌≡◌, ℕ, zero, suc, ◌<◌, ◌^◌, Bool, true, List, [], ◌∷◌, ◌++◌, length, codes, decimal, Option, Some, None, refl, arith, lt-ltb, ltb-true}
+use Rattle.std.proofs.Common.{◌≡◌, ℕ, zero, suc, ◌<◌, ◌^◌, Bool, true, List, [], ◌∷◌, ◌++◌, length, codes, decimal, Option, Some, None, refl, sym, subst, arith, inl, inr, lt-ltb, ltb-true}
 use Rattle.xv_base.specs.declared.event.Event.{Event}
 use Rattle.xv_base.specs.declared.event.Event.TheVariants.{Guest, Begin, Read, Advance, Release, Round, Page, Send, Deliver, Apply, Ack, Credit, Stun, Switch, Cancel}
 use Rattle.xv_text.specs.Lines.{line}
