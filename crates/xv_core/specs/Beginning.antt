@@ -2,6 +2,7 @@
 use Rattle.std.specs.Prelude.{◌≡◌, ◌≤◌, ℕ, ◌*◌, List, [], IfSome}
 use Rattle.xv_device.specs.Told.{Told as DeviceTold, IsSized}
 use Rattle.xv_wire.specs.Told.{Told as WireTold}
+use Rattle.xv_frame.specs.declared.codes.TheConstants.{HEAD_SIZE}
 use Rattle.xv_model.specs.Job.{Job}
 use Rattle.xv_model.specs.Contents.{first_source}
 use Rattle.xv_streams.specs.Carried.{most_bytes}
@@ -32,7 +33,7 @@ abbrev pub stream_room : Job → ℕ
 stream_room job = job.config.credit * most_bytes job.shape job.format
 
 abbrev pub back_room : Job → ℕ
-back_room job = 24 * job.config.credit
+back_room job = HEAD_SIZE * job.config.credit
 
 -- a wire on which nothing is gathered
 abbrev pub fresh_wire : WireTold → ℕ → OnWire

@@ -1,5 +1,6 @@
 -- All that the parts of a migration keep, and its fields as these parts.
 use Rattle.std.specs.Prelude.{◌≡◌, ℕ, length}
+use Rattle.xv_base.specs.declared.limits.TheConstants.{MOST_PATTERN}
 use Rattle.xv_model.specs.Job.{operation_count, unit_count}
 use Rattle.xv_model.specs.Work.{bound}
 use Rattle.xv_job.specs.Written.{Written, job_of}
@@ -24,4 +25,4 @@ pub record HasRooms (job : Written) (history_room journal_room reads_room read_r
   pub history : history_room ≡ operation_count (job_of job)
   pub journal : journal_room ≡ bound (job_of job)
   pub reads : reads_room ≡ read_lengths (job_of job)
-  pub read : read_room ≡ 64
+  pub read : read_room ≡ MOST_PATTERN

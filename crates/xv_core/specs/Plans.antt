@@ -3,6 +3,7 @@ use Rattle.std.specs.Prelude.{◌≡◌, ◌≤◌, ℕ, ◌+◌, ◌-◌, ◌&&
 use Rattle.xv_base.specs.Calls.{is_listed}
 use Rattle.xv_wire.specs.Wire.{Counted}
 use Rattle.xv_frame.specs.Frame.{Message, Each, spelled}
+use Rattle.xv_frame.specs.declared.codes.TheConstants.{HEAD_SIZE}
 use Rattle.xv_streams.specs.Streamed.{lane}
 use Rattle.xv_streams.specs.Carried.{frame_of, IsCarried}
 use Rattle.xv_streams.specs.Returned.{AreCarried}
@@ -58,7 +59,7 @@ pub record ArePieces (s : State) : Type 0 where
   pub gathered : (k : ℕ) → is_live s.phase ≡ true → (lane s.streams k).gathered ≡ []
   pub streams : (k : ℕ) → is_live s.phase ≡ true → IfSome (lane s.streams k).wire.counted (IsPieces (map (frame_length s.streams.format) (lane s.streams k).groups))
   pub back_gathered : is_live s.phase ≡ true → s.back.gathered ≡ []
-  pub back : is_live s.phase ≡ true → IfSome s.back.wire.counted (IsPieces (map (λ n. 24) s.back.counts))
+  pub back : is_live s.phase ≡ true → IfSome s.back.wire.counted (IsPieces (map (λ n. HEAD_SIZE) s.back.counts))
 
 -- the bytes on the streams and on the way back are exactly the frames that carry what is there
 pub record AllCarried (job : Job) (s : State) : Type 0 where

@@ -10,6 +10,7 @@ use Rattle.xv_model.specs.Step.{Entry, run, is_run}
 use Rattle.xv_model.specs.Contents.{Contents, HoldsContents}
 use Rattle.xv_job.specs.Written.{Written, job_of}
 use Rattle.xv_frame.specs.Frame.{Each}
+use Rattle.xv_frame.specs.declared.codes.TheConstants.{HEAD_SIZE}
 use Rattle.xv_streams.specs.Streamed.{Streamed, LaneSeen, lane}
 use Rattle.xv_streams.specs.Carried.{most_bytes, IsCarried}
 use Rattle.xv_streams.specs.Fronts.{heads_on, contents_on}
@@ -120,7 +121,7 @@ pub record ArePartsOf (job : Job) (source : Source) (dest : Dest) (streams : Str
   pub each_stream : length streams.lanes ≡ job.config.streams
   pub none_made : streams.making ≡ []
   pub wires_room : (s : ℕ) → s < job.config.streams → job.config.credit * most_bytes job.shape job.format ≤ (lane streams s).wire.capacity
-  pub back_room : 24 * job.config.credit ≤ back.wire.capacity
+  pub back_room : HEAD_SIZE * job.config.credit ≤ back.wire.capacity
 
 -- what the parts keep: the journal is a run of the job, they show the view that it ends in, and where both devices tell
 -- what they hold, the contents hold; the bytes read are as many as the history's reads

@@ -1,6 +1,7 @@
 -- What one step of a migration does, as contracts see it.
 use Rattle.std.specs.Prelude.{◌≡◌, ◌≤◌, ℕ, ◌+◌, ◌-◌, ◌^◌, ◌&&◌, min, Bool, true, false, List, ◌++◌, map, length, None, is_some}
 use Rattle.std.specs.List.{list_all}
+use Rattle.xv_base.specs.declared.limits.TheConstants.{MOST_PATTERN}
 use Rattle.xv_model.specs.Guest.{read_bytes}
 use Rattle.xv_model.specs.Wait.{Event, wait}
 use Rattle.xv_model.specs.Effect.{Turn}
@@ -48,12 +49,12 @@ pub record IsAsBefore (old new : Seen) : Type 0 where
 pub record KeepsUnwritten (old new : Seen) : Type 0 where
   pub units : (unit : ℕ) → is_written (view_of new) unit ≡ false → unit_content (told_contents new.dest) unit ≡ unit_content (told_contents old.dest) unit
 
--- the bytes that an event read for its guest come behind those read before: none where it is no read, at most 64
+-- the bytes that an event read for its guest come behind those read before: none where it is no read, at most `MOST_PATTERN`
 pub record ReadsMore (old : Seen) (event : Event) (answer : Turn) (new : Seen) : Type 0 where
   pub bytes : List ℕ
   pub behind : new.reads ≡ old.reads ++ bytes
   pub long : length bytes ≡ length (read_bytes (job_of old.job) (step (job_of old.job) (view_of old) event (is_flagged answer)).history (length (view_of old).history))
-  pub few : length bytes ≤ 64
+  pub few : length bytes ≤ MOST_PATTERN
 
 -- where all wires tell their plans, a call failed only where its event had something to do: a take meets no fault where
 -- nothing is in transit

@@ -2,6 +2,8 @@
 
 ghost use Rattle.std.specs.Prelude.{◌≡◌, ◌≤◌, ◌<◌, ℕ, ◌+◌, ◌-◌, ◌*◌, ◌^◌, Bool, true, false, List, [], ◌∷◌, ◌++◌, length, get_or, None, IfSome, is_some, unwrap_or, if◌then◌else◌};
 ghost use Rattle.std.specs.List.{list_all};
+ghost use Rattle.xv_base.specs.declared.limits.TheConstants.{MOST_CREDIT, MOST_GUESTS};
+ghost use Rattle.xv_frame.specs.declared.codes.TheConstants.{HEAD_SIZE};
 ghost use Rattle.xv_model.specs.Job.{Job, UnitOp, IsGoodJob, IsLegal, is_page, disk_of, trace, operation, size, unit_count, guest_count, operation_count};
 ghost use Rattle.xv_model.specs.Guest.{Ended, ended, is_done, writes_to, reads};
 ghost use Rattle.xv_model.specs.View.{View, no_disk, number, front, front_group, is_ready, is_switched};
@@ -97,18 +99,18 @@ pub fn hold_can_take()
 {}
 
 /// What is written and not acknowledged is within the credit; below it where a message is held, or ready; and below
-/// 1,024 where a message is to be written.
+/// `MOST_CREDIT` where a message is to be written.
 pub fn freed_is_within()
     ensures always { (s : State) → IsRunning s → s.dest.freed ≤ (job_of s.job).config.credit }
     ensures held { (s : State) → IsRunning s → 0 < length s.dest.held → s.dest.freed + 1 ≤ (job_of s.job).config.credit }
-    ensures ready { (s : State) → IsRunning s → is_ready (view s).hold ≡ true → s.dest.freed < 1024 }
-    ensures applies { (s : State) (flag : Bool) → IsRunning s → wait (job_of s.job) (view s) Apply flag ≡ None → s.dest.freed < 1024 }
+    ensures ready { (s : State) → IsRunning s → is_ready (view s).hold ≡ true → s.dest.freed < MOST_CREDIT }
+    ensures applies { (s : State) (flag : Bool) → IsRunning s → wait (job_of s.job) (view s) Apply flag ≡ None → s.dest.freed < MOST_CREDIT }
 {}
 
 /// The way back has room for one acknowledgement more where there is something to acknowledge, and what comes back makes
 /// no more than the credit.
 pub fn way_back_has_room()
-    ensures ack { (s : State) → IsRunning s → 0 < s.dest.freed → 24 * (length s.back.counts + 1) ≤ s.back.wire.capacity }
+    ensures ack { (s : State) → IsRunning s → 0 < s.dest.freed → HEAD_SIZE * (length s.back.counts + 1) ≤ s.back.wire.capacity }
     ensures credit { (s : State) → IsRunning s → s.source.credit + number s.back.counts 0 ≤ s.source.config.credit }
 {}
 
@@ -157,5 +159,5 @@ pub fn parts_are_of_the_job()
     ensures legal_source { (s : State) (op : UnitOp) → IsRunning s → IsLegal (job_of s.job).shape op → IsLegal s.source.shape op }
     ensures legal_dest { (s : State) (op : UnitOp) → IsRunning s → IsLegal (job_of s.job).shape op → IsLegal s.dest.shape op }
     ensures disks { (s : State) (d : ℕ) → IsRunning s → d < length (job_of s.job).shape.disks → d < length s.source.disks }
-    ensures guests { (s : State) (g : ℕ) → IsRunning s → g < guest_count (job_of s.job) → g < 16 }
+    ensures guests { (s : State) (g : ℕ) → IsRunning s → g < guest_count (job_of s.job) → g < MOST_GUESTS }
 {}

@@ -8,7 +8,7 @@ ghost use Rattle.xv_core.specs.Seen.{view_of};
 
 use crate::migration::Migration;
 use crate::settling::{is_live, is_stunned};
-use xv_base::{Event, Why};
+use xv_base::{Event, GROUP_FORMAT, Why};
 use xv_device::UnitDevice;
 use xv_wire::Wire;
 
@@ -21,7 +21,7 @@ impl<S: UnitDevice, T: UnitDevice, W: Wire> Migration<S, T, W> {
         if !is_live(self.phase) {
             return Some(Why::NotNow);
         }
-        self.source.waits(Event::Send(stream), self.job.format == 2)
+        self.source.waits(Event::Send(stream), self.job.format == GROUP_FORMAT)
     }
 
     /// What a delivery from a stream would wait for now.

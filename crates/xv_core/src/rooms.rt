@@ -8,13 +8,10 @@ ghost use Rattle.xv_core.specs.Reads.{read_length, read_lengths};
 ghost use Rattle.xv_core.specs.Kept.{HasRooms};
 
 use std::alloc::{AllocError, Global};
-use xv_base::{Entry, UnitOp};
+use xv_base::{Entry, MOST_PATTERN, UnitOp};
 use xv_guest::History;
 use xv_job::Job;
 use xv_trace::Trace;
-
-/// The greatest number of bytes that one operation reads.
-const READ_ROOM: usize = 64;
 
 /// Empty lists with room for all that a run enters into them, and the bytes of one read.
 #[derive(Drop)]
@@ -45,7 +42,7 @@ impl Rooms {
         let Ok(reads) = Vec::with_capacity(alloc, read_lengths(job) as usize) else {
             return None;
         };
-        let Ok(read) = zeros(alloc, READ_ROOM) else {
+        let Ok(read) = zeros(alloc, MOST_PATTERN as usize) else {
             return None;
         };
         Some(Rooms {

@@ -9,16 +9,16 @@ ghost use Rattle.xv_core.specs.Stepped.{IsStep};
 use crate::cancels::{is_before_cancel, reaches_cancel};
 use crate::migration::Migration;
 use crate::settling::{enter, is_live, is_running, settle};
-use xv_base::{Event, Note, Phase, Turn, Why};
+use xv_base::{Event, GROUP_FORMAT, Note, Phase, Turn, Why};
 use xv_device::UnitDevice;
 use xv_job::Job;
 use xv_wire::Wire;
 
 /// Whether rounds of a job may go beside the copy.
 pub(crate) fn may_go_beside(job: &Job) -> bool
-    ensures { result ≡ ((job_of job.now).format == 2) }
+    ensures { result ≡ ((job_of job.now).format == GROUP_FORMAT) }
 {
-    job.format == 2
+    job.format == GROUP_FORMAT
 }
 
 impl<S: UnitDevice, T: UnitDevice, W: Wire> Migration<S, T, W> {

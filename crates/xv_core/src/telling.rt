@@ -16,7 +16,7 @@ use crate::migration::Migration;
 use crate::settling::is_live;
 use crate::starting::Parts;
 use crate::sums::{copied, issued_from, made_from, written};
-use xv_base::{Entry, Event, GuestId, Layout, Phase, Probe, Totals, UnitId};
+use xv_base::{Entry, Event, GuestId, Layout, MOST_GUESTS, Phase, Probe, Totals, UnitId};
 use xv_device::UnitDevice;
 use xv_guest::History;
 use xv_job::Job;
@@ -234,7 +234,7 @@ fn has_ended(job: &Job, history: &History, guest: u8) -> bool
 /// How many guests a job has.
 pub(crate) fn guests(job: &Job) -> u8
     ensures exactly { result ≡ length (job_of job.now).traces }
-    ensures few { result ≤ 16 }
+    ensures few { result ≤ MOST_GUESTS }
 {
     let _ = job.operations();
     job.traces.len() as u8

@@ -1,5 +1,5 @@
 -- A guest's operation on the destination does to the contents what the machine says.
-use Rattle.std.proofs.Common.{◌≡◌, ◌<◌, ℕ, ◌+◌, ◌&&◌, Bool, true, false, not, List, [], ◌++◌, length, set, take, drop, Option, Some, None, refl, sym, ap, subst, ◌∙◌, arith}
+use Rattle.std.proofs.Common.{◌≡◌, ◌<◌, ◌≤◌, ℕ, ◌+◌, ◌&&◌, Bool, true, false, not, List, [], ◌++◌, length, set, take, drop, Option, Some, None, refl, sym, ap, subst, ◌∙◌, arith}
 use Rattle.std.specs.Prelude.{nat_le, unwrap_or, is_some}
 use Rattle.std.proofs.lemmas.List.{set-get_or, append-nil}
 use Rattle.std.proofs.Math.ListN.{drop_of_length-le}
@@ -8,12 +8,14 @@ use Rattle.xv_base.specs.declared.event.Event.TheVariants.{Guest}
 use Rattle.xv_base.specs.declared.unit.GuestId.{GuestId}
 use Rattle.xv_base.specs.declared.event.Phase.{Phase}
 use Rattle.xv_base.specs.declared.event.Phase.TheVariants.{Running, Stunned, Switched, Cancelled, Failed}
-use Rattle.xv_base.specs.Units.{Shape, units, size, is_page}
+use Rattle.xv_base.specs.Units.{Shape, units, size, max_size, is_page}
+use Rattle.xv_base.specs.Layout.{IsGood}
+use Rattle.xv_base.proofs.Partition.{has_greatest_size}
 use Rattle.xv_base.specs.Pattern.{repeated}
 use Rattle.xv_device.specs.Device.{content, contents_after}
 use Rattle.xv_device.specs.Told.{Told, CallMade, IsSized}
 use Rattle.xv_device.specs.Operations.{operation_call, operation_call_by}
-use Rattle.xv_device.proofs.Filling.{length-repeated}
+use Rattle.xv_base.proofs.Patterns.{length-repeated}
 use Rattle.xv_model.specs.Job.{Job, UnitOp, IsLegal, trace}
 use Rattle.xv_model.specs.Guest.{ended, overlaid}
 use Rattle.xv_model.specs.View.{View, is_switched, in_queue}
@@ -25,6 +27,10 @@ use Rattle.xv_dest.specs.Half.{Dest, HasDestBytes}
 use Rattle.xv_dest.specs.Step.{Allows, MovesDest}
 use Rattle.xv_dest.proofs.Steps.{moves-failing, moves-going}
 use Rattle.xv_dest.proofs.Telling.{tells_after, told_then, told_of}
+
+-- the bytes of an operation are no more than those of the greatest unit
+pub len_fits : (s : Shape) (op : UnitOp) → IsGood s → IsLegal s op → op.len ≤ max_size s
+len_fits s op good legal = omega (arith, (has_greatest_size s good).most op.unit.0 legal.unit_is, legal.in_unit)
 
 -- the call does to the contents what the operation does
 after-by : (s : Shape) (op : UnitOp) (write : Option (List ℕ)) (b : Bool) (xs : List (List ℕ)) → is_page s op.unit.0 ≡ b

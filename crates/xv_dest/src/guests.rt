@@ -35,6 +35,7 @@ impl<T: UnitDevice> DestHalf<T> {
 
     /// A guest's operation, once the destination owns the guest; what it reads stands in the first bytes of `into`.
     /// It is faulted where its one call failed, and no content has changed.
+    #[tactic(auto, using(crate::proofs::GuestMoves::len_fits))]
     pub fn guest(&mut self, op: &UnitOp, into: &mut [u8]) -> Turn
         requires legal { IsLegal self.old.shape op.now }
         requires room { MOST_PATTERN ≤ length into.old }

@@ -1,6 +1,6 @@
 pub mod Aborts
-pub mod Progress
 pub mod Sayings
 pub mod Scripts
 pub mod Sound
 pub mod Told
+pub mod Programs

@@ -1,6 +1,5 @@
 -- The lines of a handover's script one by one: what fields say, and by which fields each event is said.
 use Rattle.std.proofs.Common.{◌≡◌, ℕ, zero, suc, ◌<◌, ◌^◌, Bool, true, List, [], ◌∷◌, ◌++◌, codes, decimal, nat_lt, Option, Some, None, refl, sym, ap, ◌∙◌, subst, arith, inl, inr, lt-ltb, ltb-true}
-use Rattle.std.specs.List.{find}
 use Rattle.std.specs.Cmp.Lexicographic.{same_text}
 use Rattle.std.proofs.lemmas.Bool.{cases_Bool}
 use Rattle.xv_text.specs.Lines.{line}
@@ -9,9 +8,11 @@ use Rattle.xv_text.specs.declared.row.Kind.TheVariants.{Number}
 use Rattle.xv_text.proofs.Apart.{IsPlain, ArePlain, decimal_plain}
 use Rattle.xv_text.proofs.Numbers.{number-decimal}
 use Rattle.xv_text.proofs.Rows.{values_row}
+use Rattle.xv_text.proofs.Found.{found_spelled}
 use Rattle.xv_text.proofs.Spelled.{spelled-values, fields_fault-spelled}
 use Rattle.xv_handover.specs.Lines.{event_words}
-use Rattle.xv_handover.specs.Words.{is_spelled, spelling, words, word_of, node_name, node_of, node_in, node_fault, number_fault, number_in, alone_fault, args_fault, at_node, event_said}
+use Rattle.xv_handover.specs.Words.{spelling, words, word_of, node_name, node_of, node_in, node_fault, number_fault, number_in, alone_fault, args_fault, at_node, event_said}
+use Rattle.xv_text.specs.Words.{is_spelled}
 use Rattle.xv_handover.specs.Script.{is_written}
 use Rattle.xv_handover.specs.declared.word.Word.{Word}
 use Rattle.xv_handover.specs.declared.word.Word.TheVariants.{Write as WriteWord, Image as ImageWord, Offer as OfferWord, Withdraw as WithdrawWord, Resend as ResendWord, Restart as RestartWord, Pass as PassWord, Stop as StopWord}
@@ -20,22 +21,10 @@ use Rattle.xv_handover.specs.declared.word.NodeName.TheVariants.{A, B}
 use Rattle.xv_handover.specs.declared.world.WorldEvent.{WorldEvent}
 use Rattle.xv_handover.specs.declared.world.WorldEvent.TheVariants.{WriteA, WriteB, Image, Offer, Withdraw, ResendA, ResendB, RestartA, RestartB, Pass}
 
--- what is found passes the test
-find_passes : {X : Type 0} (p : X → Bool) (xs : List X) (x : X) → find p xs ≡ Some x → p x ≡ true
-find_passes p [] x h = absurd (cc)
-find_passes {X = X} p (y ∷ ys) x h = elim (cases_Bool (p y)) [
-  | inl passes ↦
-      let found : Some y ≡ Some x = rw passes at h in
-      let same : y ≡ x = cc in
-      let P : X → Type 0 = λ z. p z ≡ true in
-      subst P same passes
-  | inr fails ↦ let later : find p ys ≡ Some x = rw fails at h in find_passes p ys x later
-]
-
 -- a word is known by its spelling alone, and so is a node
 spelled : (field : List ℕ) (word : Word) → word_of field ≡ Some word → field ≡ spelling word
 unfolding word_of
-spelled field word h = sym (same_text (spelling word) field (sym (find_passes (λ w. is_spelled (spelling w) field) words word h)))
+spelled field word h = found_spelled spelling words field word h
 
 named : (field : List ℕ) (node : NodeName) → node_of field ≡ Some node → field ≡ node_name node
 named field node h = elim (cases_Bool (is_spelled (node_name A) field)) [

@@ -9,16 +9,24 @@ use Rattle.xv_base.specs.declared.text.TextError.TheVariants.{Fault, NoMemory}
 use Rattle.xv_base.specs.declared.text.LineWhy.{LineWhy}
 use Rattle.xv_base.specs.declared.text.LineWhy.TheVariants.{Limit}
 use Rattle.xv_text.specs.Lines.{has_rest, lines_of, line, text_of}
-use Rattle.xv_text.specs.Reading.{first_fault, last_state, at_line_or, IfFault}
+use Rattle.xv_text.specs.Reading.{first_fault, last_state, line_count, one_more_unless, at_line_or, IfFault}
+use Rattle.xv_text.proofs.Progress.{none_more}
 use Rattle.xv_text.proofs.Rows.{none_of_both, no_fault_if}
 use Rattle.xv_text.proofs.Apart.{ArePlainLines, lines_of-text_of, has_rest-text_of, text_of-lines_of}
+use Rattle.xv_text.specs.declared.limits.TheConstants.{LIMIT_OF_EVENTS}
 use Rattle.xv_handover.specs.Lines.{event_words, script_text}
 use Rattle.xv_handover.specs.Words.{word_of, args_fault, event_said}
-use Rattle.xv_handover.specs.Script.{first_script, event_limit, limit_fault, word_fault, line_fault, event_by, event_in, with_event, reader, text_fault, text_events, is_written, IsScript}
+use Rattle.xv_handover.specs.Script.{Script, first_script, event_limit, limit_fault, word_fault, line_fault, event_by, event_in, with_event, reader, text_fault, text_events, is_written, IsScript}
 use Rattle.xv_handover.specs.declared.word.Word.{Word}
 use Rattle.xv_handover.specs.declared.world.WorldEvent.{WorldEvent}
-use Rattle.xv_handover.proofs.Progress.{so_far, stopped}
 use Rattle.xv_handover.proofs.Sayings.{event_fields, said_fields, said_written, line-event_fields, word_sound, IsSpelt, event_spelt, stop_spelt}
+
+-- a script that goes on, and one that has stopped
+abbrev so_far : List WorldEvent → Script
+so_far events = record { events = events; stopped = false }
+
+abbrev stopped : List WorldEvent → Script
+stopped events = record { events = events; stopped = true }
 
 -- the text of what a line says
 abbrev text_said : Option WorldEvent → List ℕ
@@ -102,7 +110,7 @@ later_none n None later h = (refl, h)
 later_none n (Some why) later h = absurd (cc)
 
 has_place : (before : ℕ) (e : WorldEvent) → limit_fault before (Some e) ≡ None → before < event_limit
-has_place before e h = leb-false event_limit before (no_fault_if (nat_le event_limit before) (Limit 19) h)
+has_place before e h = leb-false event_limit before (no_fault_if (nat_le event_limit before) (Limit LIMIT_OF_EVENTS) h)
 
 by_line : (events : List WorldEvent) (n : ℕ) (l : List (List ℕ)) (ls : List (List (List ℕ))) (rest : Bool) (said : Option WorldEvent) → length events ≤ event_limit → event_in l ≡ said → IsLine (length events) l said
     → first_fault reader true (with_event (so_far events) said) (n + 1) ls rest ≡ None
@@ -118,6 +126,24 @@ sound [] events n rest few h = absurd (cc)
 sound (l ∷ ls) events n rest few h =
     let a = later_none n (line_fault (length events) l) (first_fault reader true (with_event (so_far events) (event_in l)) (n + 1) ls rest) h in
     by_line events n l ls rest (event_in l) few refl (line_sound (length events) l a.0) a.1 (λ more f k. sound ls more (n + 1) rest f k)
+
+-- few lines are read
+few_by : (events : List WorldEvent) (l : List (List ℕ)) (ls : List (List (List ℕ))) (said : Option WorldEvent) (why : Option LineWhy) → length events ≤ event_limit → event_in l ≡ said → (why ≡ None → limit_fault (length events) said ≡ None)
+    → ((more : List WorldEvent) → length more ≤ event_limit → line_count reader (so_far more) ls + length more ≤ event_limit + 1)
+    → one_more_unless why (line_count reader (with_event (so_far events) said) ls) + length events ≤ event_limit + 1
+few_by events l ls said (Some why) few is placed go_on = omega arith
+few_by events l ls None None few is placed go_on = omega (arith, none_more (reader) (stopped events) ls refl)
+few_by events l ls (Some e) None few is placed go_on =
+    let place = has_place (length events) e (placed refl) in
+    omega (arith, go_on (events ++ e ∷ []) (omega (arith, place, length-append events (e ∷ []))), length-append events (e ∷ []))
+
+few_lines : (ls : List (List (List ℕ))) (events : List WorldEvent) → length events ≤ event_limit → line_count reader (so_far events) ls + length events ≤ event_limit + 1
+few_lines [] events few = omega arith
+few_lines (l ∷ ls) events few =
+    few_by events l ls (event_in l) (line_fault (length events) l) few refl (λ none. (line_sound (length events) l none).in_place) (λ more f. few_lines ls more f)
+
+pub text_few : (text : List ℕ) (events : List WorldEvent) → events ≡ [] → line_count reader (so_far events) (lines_of text) ≤ event_limit + 1
+text_few text events none = omega (arith, few_lines (lines_of text) events (omega (arith, ap length none)))
 
 -- a text without a fault
 record IsRead (text : List ℕ) (events : List WorldEvent) : Type 0 where

@@ -145,10 +145,6 @@ lets_go a b sent s met = record {
 stays : (w : Both) → Holds w → Goes w w
 stays w s = record { sound = s; hands = λ before after. absurd (before after) }
 
--- node B only takes a message or says one again
-says : (w : Both) (sends : Option Message) → Holds w → ((k : Message) → sends ≡ Some k → IsTrueOf w.a w.offered w.b k) → Goes w (record w { sent = posted w.sent sends })
-says w sends s h = record { sound = posts_any w.a w.offered w.b w.sent sends s h; hands = λ before after. absurd (before after) }
-
 -- node A's calls
 write_goes : (w : Both) → Holds w → Goes w (by_a w (write_a (side_a w))).0
 write_goes w s = on_test (λ move. Goes w (by_a w move).0) (w.offered || (w.a.gone || (w.a.number == most))) _ _ (λ _. stays w s)

@@ -1,4 +1,4 @@
-pub mod Memory
+pub mod Crash
 pub mod Tables
 pub mod Answers
 pub mod World
@@ -7,3 +7,4 @@ pub mod Play
 pub mod Lines
 pub mod Words
 pub mod Script
+pub mod Program

@@ -4,6 +4,8 @@ use Rattle.std.specs.List.{list_all}
 use Rattle.xv_base.specs.declared.text.LineFault.{LineFault}
 use Rattle.xv_base.specs.declared.text.LineWhy.{LineWhy}
 use Rattle.xv_base.specs.declared.text.LineWhy.TheVariants.{BadWord, Limit}
+use Rattle.xv_base.specs.declared.limits.TheConstants.{MOST_WORLD_EVENTS}
+use Rattle.xv_text.specs.declared.limits.TheConstants.{LIMIT_OF_EVENTS}
 use Rattle.xv_text.specs.Lines.{lines_of, has_rest}
 use Rattle.xv_text.specs.Fields.{or_else, fault_if}
 use Rattle.xv_text.specs.Reading.{Reader, first_fault, last_state}
@@ -22,11 +24,11 @@ first_script = record { events = []; stopped = false }
 
 -- how many events a script has at most; there is no limit to `stop`
 abbrev pub event_limit : ℕ
-event_limit = 65536
+event_limit = MOST_WORLD_EVENTS
 
 abbrev pub limit_fault : ℕ → Option WorldEvent → Option LineWhy
 limit_fault before None = None
-limit_fault before (Some event) = fault_if (nat_le event_limit before) (Limit 19)
+limit_fault before (Some event) = fault_if (nat_le event_limit before) (Limit LIMIT_OF_EVENTS)
 
 -- what is wrong with a line behind so many events, the first reason: its word, what follows it, and its place
 abbrev pub word_fault : ℕ → Option Word → List (List ℕ) → Option LineWhy

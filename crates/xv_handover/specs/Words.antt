@@ -1,19 +1,16 @@
 -- The words of a handover's script, how each is spelled, what follows it, and the event that it says.
-use Rattle.std.specs.Prelude.{ℕ, nat_eq, Bool, List, [], ◌∷◌, codes, Option, Some, None, find, if◌then◌else◌}
-use Rattle.std.specs.Cmp.Lexicographic.{pointwise}
+use Rattle.std.specs.Prelude.{ℕ, List, [], ◌∷◌, codes, Option, Some, None, find, if◌then◌else◌}
 use Rattle.xv_base.specs.declared.text.LineWhy.{LineWhy}
 use Rattle.xv_base.specs.declared.text.LineWhy.TheVariants.{BadWord}
 use Rattle.xv_text.specs.declared.row.Kind.TheVariants.{Number}
 use Rattle.xv_text.specs.Fields.{fields_fault, number_at, values}
+use Rattle.xv_text.specs.Words.{is_spelled}
 use Rattle.xv_handover.specs.declared.word.Word.{Word}
 use Rattle.xv_handover.specs.declared.word.Word.TheVariants.{Write as WriteWord, Image as ImageWord, Offer as OfferWord, Withdraw as WithdrawWord, Resend as ResendWord, Restart as RestartWord, Pass as PassWord, Stop as StopWord}
 use Rattle.xv_handover.specs.declared.word.NodeName.{NodeName}
 use Rattle.xv_handover.specs.declared.word.NodeName.TheVariants.{A, B}
 use Rattle.xv_handover.specs.declared.world.WorldEvent.{WorldEvent}
 use Rattle.xv_handover.specs.declared.world.WorldEvent.TheVariants.{WriteA, WriteB, Image, Offer, Withdraw, ResendA, ResendB, RestartA, RestartB, Pass}
-
-abbrev pub is_spelled : List ℕ → List ℕ → Bool
-is_spelled spelling field = pointwise nat_eq spelling field
 
 abbrev pub spelling : Word → List ℕ
 spelling WriteWord = codes "write"

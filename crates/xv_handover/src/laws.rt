@@ -1,13 +1,18 @@
 //! What holds over every list of events, each as the contract of a function that does nothing.
 
-ghost use Rattle.std.specs.Prelude.{◌≡◌, ◌≢◌, ◌≤◌, ◌↔◌, ℕ, List, length, Some};
+ghost use Rattle.std.specs.Prelude.{◌≡◌, ◌≢◌, ◌≤◌, ◌↔◌, ◌⊎◌, false, ℕ, List, length, Some};
 ghost use Rattle.xv_handover.specs.declared.world.WorldEvent.{WorldEvent};
-ghost use Rattle.xv_handover.specs.declared.world.WorldEvent.TheVariants.{Pass};
+ghost use Rattle.xv_handover.specs.declared.world.WorldEvent.TheVariants.{RestartA, RestartB, Pass};
 ghost use Rattle.xv_handover.specs.declared.message.Message.{Message};
 ghost use Rattle.xv_handover.specs.declared.message.Kind.TheVariants.{Abort};
+ghost use Rattle.xv_handover.specs.declared.kept.KeptA.{KeptA};
+ghost use Rattle.xv_handover.specs.declared.kept.KeptB.{KeptB};
+ghost use Rattle.xv_handover.specs.declared.message.Reply.{Reply};
 ghost use Rattle.xv_handover.specs.declared.message.Reply.TheVariants.{Done, NotNow, Failed};
-ghost use Rattle.xv_handover.specs.World.{Both, first_world, step, world_after};
+ghost use Rattle.xv_handover.specs.World.{Both, side_a, first_world, step, world_after};
 ghost use Rattle.xv_handover.specs.Safe.{IsSafe, IsSound, HandsOver};
+ghost use Rattle.xv_handover.specs.Crash.{CrashLeaves};
+ghost use Rattle.xv_handover.specs.Program.{Running, Deed, world_of, Happens, IsProgram, left_by, events_of};
 
 /// The nodes never both own the guest, whatever was called, delivered, lost or restarted.
 pub fn never_two_owners()
@@ -22,6 +27,29 @@ pub fn messages_stay_true()
 /// The event at which node B becomes the owner gives it the number of node A's offer.
 pub fn owner_has_the_offered_number()
     ensures { (events : List WorldEvent) (event : WorldEvent) → let w = world_after first_world events in HandsOver w (step w event).0 }
+{}
+
+/// A call of a node, a delivery or a restart that meets its table is the event of the world, with its answer. Where the
+/// keeper failed, the world is as it was.
+pub fn calls_are_events()
+    ensures made { (event : WorldEvent) (reply : Reply) (x y : Running) → Happens event reply x y → reply ≢ Failed → step (world_of x) event ≡ (world_of y, reply) }
+    ensures failed { (event : WorldEvent) (x y : Running) → Happens event Failed x y → world_of x ≡ world_of y }
+{}
+
+/// So whatever a program does with two nodes from their beginnings, they are a world: what holds over every list of events
+/// holds of them.
+pub fn programs_are_worlds()
+    ensures world { (x : Running) (deeds : List Deed) → IsProgram x deeds → world_after (world_of x) (events_of deeds) ≡ world_of (left_by x deeds) }
+    ensures sound { (x : Running) (deeds : List Deed) → world_of x ≡ first_world → IsProgram x deeds → let w = world_of (left_by x deeds) in IsSound w.a w.offered w.b w.sent }
+{}
+
+/// A crash inside a call leaves the old value or the new one: the node wakes as after a restart alone, or as after the event,
+/// whose message is lost, and a restart.
+pub fn crashes_are_restarts()
+    ensures a { (w : Both) (event : WorldEvent) (kept : KeptA) → CrashLeaves w.a (step w event).0.a kept
+        → (record { kept = kept; offered = false } ≡ side_a (step w RestartA).0) ⊎ (record { kept = kept; offered = false } ≡ side_a (step (step w event).0 RestartA).0) }
+    ensures b { (w : Both) (event : WorldEvent) (kept : KeptB) → CrashLeaves w.b (step w event).0.b kept
+        → (kept ≡ (step w RestartB).0.b) ⊎ (kept ≡ (step (step w event).0 RestartB).0.b) }
 {}
 
 /// No event fails, since nothing that the nodes of a world keep is lost.

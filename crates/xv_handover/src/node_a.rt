@@ -23,13 +23,13 @@ impl<R: Keeper<KeptA>> Model for NodeA<R> {
 
     ghost Value = { Seen SideA };
 
-    ghost view = { λ a. record { side = record { kept = R.held a.keeper; offered = a.offered }; faults = R.faults a.keeper; steady = R.steady a.keeper } };
+    ghost view = { λ a. record { side = record { kept = R.held a.keeper; offered = a.offered }; calls = R.calls a.keeper; faults = R.faults a.keeper; steady = R.steady a.keeper } };
 }
 
 impl<R: Keeper<KeptA>> NodeA<R> {
     /// Begins from what is kept. That an offer was made is lost.
     pub fn wake(keeper: R) -> NodeA<R>
-        ensures { result ≡ record { side = record { kept = R.held keeper; offered = false }; faults = R.faults keeper; steady = R.steady keeper } }
+        ensures { result ≡ record { side = record { kept = R.held keeper; offered = false }; calls = R.calls keeper; faults = R.faults keeper; steady = R.steady keeper } }
     {
         NodeA {
             keeper,
@@ -61,6 +61,7 @@ impl<R: Keeper<KeptA>> NodeA<R> {
     /// Gives the keeper back.
     pub fn into_keeper(self) -> R
         ensures held { R.held result ≡ self.side.kept }
+        ensures calls { R.calls result ≡ self.calls }
         ensures faults { R.faults result ≡ self.faults }
         ensures steady { R.steady result ≡ self.steady }
     {

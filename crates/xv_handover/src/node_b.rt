@@ -23,13 +23,13 @@ impl<R: Keeper<KeptB>> Model for NodeB<R> {
 
     ghost Value = { Seen KeptB };
 
-    ghost view = { λ b. record { side = R.held b.keeper; faults = R.faults b.keeper; steady = R.steady b.keeper } };
+    ghost view = { λ b. record { side = R.held b.keeper; calls = R.calls b.keeper; faults = R.faults b.keeper; steady = R.steady b.keeper } };
 }
 
 impl<R: Keeper<KeptB>> NodeB<R> {
     /// Begins from what is kept.
     pub fn wake(keeper: R) -> NodeB<R>
-        ensures { result ≡ record { side = R.held keeper; faults = R.faults keeper; steady = R.steady keeper } }
+        ensures { result ≡ record { side = R.held keeper; calls = R.calls keeper; faults = R.faults keeper; steady = R.steady keeper } }
     {
         NodeB { keeper }
     }
@@ -54,6 +54,7 @@ impl<R: Keeper<KeptB>> NodeB<R> {
     /// Gives the keeper back.
     pub fn into_keeper(self) -> R
         ensures held { R.held result ≡ self.side }
+        ensures calls { R.calls result ≡ self.calls }
         ensures faults { R.faults result ≡ self.faults }
         ensures steady { R.steady result ≡ self.steady }
     {

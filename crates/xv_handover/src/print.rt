@@ -1,6 +1,6 @@
 //! The lines that a handover prints.
 
-ghost use Rattle.std.specs.Prelude.{◌≡◌, ◌≢◌, ◌≤◌, ◌+◌, ◌++◌, ◌∷◌, [], length, codes, decimal};
+ghost use Rattle.std.specs.Prelude.{◌≡◌, ◌≢◌, ◌≤◌, ◌+◌, ◌++◌, ◌∷◌, length, codes, decimal};
 ghost use Rattle.xv_handover.specs.declared.message.Reply.TheVariants.{Failed};
 ghost use Rattle.xv_handover.specs.Lines.{event_words, kind_words, message_words, wait_words, reply_words, reply_line, side_words, stage_words, nodes_text};
 

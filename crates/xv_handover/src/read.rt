@@ -11,11 +11,8 @@ ghost use Rattle.xv_handover.specs.declared.world.WorldEvent.{WorldEvent as Worl
 use crate::word::{NodeName, Word, node_of, word_of};
 use crate::world::WorldEvent;
 use std::alloc::Global;
-use xv_base::{LineFault, LineWhy, TextError};
-use xv_text::{Fields, Kind, first_field, next_line, read_fields};
-
-/// How many events a script has at most.
-const LIMIT: usize = 65_536;
+use xv_base::{LineWhy, MOST_WORLD_EVENTS, TextError};
+use xv_text::{Fields, Kind, LIMIT_OF_EVENTS, ReadsLines, Stop, first_field, read_fields, read_lines};
 
 /// The events of a handover's script, to its line `stop`, which ends the text.
 /// Errors: the first faulty line, and the first reason why it is refused; want of memory.
@@ -28,43 +25,60 @@ pub fn read_world(alloc: Global, text: &[u8]) -> Result<Vec<WorldEvent>, TextErr
     ensures only { IfOk result (λ found. (events : List WorldEventValue) → IsScript events → text.now ≡ script_text events → found.items ≡ events) }
     ensures refused { IfFault result (λ fault. (events : List WorldEventValue) → IsScript events → text.now ≢ script_text events) }
 {
-    read_lines(alloc, text)
+    read_text(alloc, text)
 }
 
 /// The events that the lines of a text say, as the definition of its first fault has it.
-fn read_lines(alloc: Global, text: &[u8]) -> Result<Vec<WorldEvent>, TextError>
+fn read_text(alloc: Global, text: &[u8]) -> Result<Vec<WorldEvent>, TextError>
     ensures fault { IfFault result (λ fault. text_fault text.now ≡ Some fault) }
     ensures no_fault { IfOk result (λ events. text_fault text.now ≡ None) }
     ensures events { IfOk result (λ events. events.items ≡ text_events text.now) }
 {
-    let mut events = Vec::new(alloc);
-    let mut number = 1;
-    let mut rest = text;
-    while let Some((line, more)) = next_line(rest) {
-        let found = match read_line(events.len(), line) {
-            Ok(found) => found,
-            Err(why) => return Err(fault(number, why)),
-        };
-        let Some(event) = found else {
-            return if more.is_empty() {
-                Ok(events)
-            } else {
-                Err(fault(number + 1, LineWhy::Order))
-            };
-        };
-        let Ok(()) = events.push(event) else {
-            return Err(TextError::NoMemory);
-        };
-        number += 1;
-        rest = more;
+    let mut read = EventsRead {
+        events: Vec::new(alloc),
+        is_stopped: false,
+    };
+    match read_lines(alloc, &mut read, text, 1, true) {
+        Ok(_) => Ok(read.events),
+        Err(error) => Err(error),
     }
-    Err(fault(number, LineWhy::Unended))
 }
 
-fn fault(line: u32, why: LineWhy) -> TextError
-    ensures { result ≡ TextError.Fault (record { line = line; why = why }) }
-{
-    TextError::Fault(LineFault { line, why })
+/// A script as far as its lines have been read.
+#[derive(Drop)]
+struct EventsRead {
+    events: Vec<WorldEvent>,
+    is_stopped: bool,
+}
+
+impl ReadsLines for EventsRead {
+    ghost use Rattle.xv_handover.specs.Script.{Script, reader as script_table};
+
+    ghost State = { Script };
+
+    ghost reader = { λ r. script_table };
+
+    ghost state = { λ r. record { events = r.events.items; stopped = r.is_stopped } };
+
+    ghost holds = { λ r. Unit {0} };
+
+    fn is_ended(&self) -> bool {
+        self.is_stopped
+    }
+
+    fn read_line(&mut self, _alloc: Global, line: &[u8]) -> Result<(), Stop> {
+        match read_line(self.events.len(), line) {
+            Ok(Some(event)) => match self.events.push(event) {
+                Ok(()) => Ok(()),
+                Err(_) => Err(Stop::NoMemory),
+            },
+            Ok(None) => {
+                self.is_stopped = true;
+                Ok(())
+            }
+            Err(why) => Err(Stop::Refused(why)),
+        }
+    }
 }
 
 /// What a line behind so many events says; none where it is `stop`, which may always come.
@@ -80,7 +94,9 @@ fn read_line(before: usize, line: &[u8]) -> Result<Option<WorldEvent>, LineWhy>
     };
     match event_said(word, &args) {
         Ok(None) => Ok(None),
-        Ok(Some(_)) if before >= LIMIT => Err(LineWhy::Limit(19)),
+        Ok(Some(_)) if before >= MOST_WORLD_EVENTS as usize => {
+            Err(LineWhy::Limit(LIMIT_OF_EVENTS))
+        },
         Ok(Some(event)) => Ok(Some(event)),
         Err(why) => Err(why),
     }

@@ -1,7 +1,9 @@
 //! The words that lines of a handover's script begin with.
 
-ghost use Rattle.std.specs.Prelude.{◌≡◌, find};
-ghost use Rattle.xv_handover.specs.Words.{is_spelled, spelling, word_of, node_of};
+ghost use Rattle.std.specs.Prelude.{◌≡◌};
+ghost use Rattle.xv_handover.specs.Words.{word_of, node_of};
+
+use xv_text::{TextWord, first_spelled};
 
 /// The word of a line.
 #[derive(Clone, Copy, Debug, PartialEq, Eq)]
@@ -39,26 +41,15 @@ const WORDS: [Word; 8] = [
 pub(crate) fn word_of(field: &[u8]) -> Option<Word>
     ensures { result ≡ word_of field.now }
 {
-    first_spelled(field, &WORDS)
+    first_spelled(&WORDS, field)
 }
 
-/// The first of these words that is spelled as a field.
-fn first_spelled(field: &[u8], words: &[Word]) -> Option<Word>
-    ensures { result ≡ find (λ word. is_spelled (spelling word) field.now) words.now }
-{
-    for word in words {
-        if word.spelling() == field {
-            return Some(*word);
-        }
-    }
-    None
-}
+impl TextWord for Word {
+    ghost use Rattle.xv_handover.specs.Words.{spelling as spelling_of};
 
-impl Word {
-    /// How the word is spelled.
-    fn spelling(self) -> &'static [u8]
-        ensures { result.now ≡ spelling self }
-    {
+    ghost spelling = { spelling_of };
+
+    fn spelling(self) -> &'static [u8] {
         match self {
             Word::Write => b"write",
             Word::Image => b"image",

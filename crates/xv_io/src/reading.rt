@@ -1,6 +1,6 @@
 //! An input as a whole.
 
-ghost use Rattle.std.specs.Prelude.{◌≡◌, ◌+◌, ◌<◌, ◌≤◌, length, take, vec_len, IfErr, IfOk, IfSome, OnOk, IsErrOf, OnErr};
+ghost use Rattle.std.specs.Prelude.{◌≡◌, ◌+◌, ◌<◌, ◌≤◌, length, vec_len, IfErr, IfOk, IfSome, OnOk, IsErrOf, OnErr};
 ghost use Rattle.xv_base.specs.Calls.{CountRose};
 ghost use Rattle.xv_io.specs.Io.{EndsAtZero, GaveAtLeast, GaveAtMost, IsAtEnd, Moves};
 

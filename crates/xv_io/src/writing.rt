@@ -1,6 +1,6 @@
 //! A text as a whole.
 
-ghost use Rattle.std.specs.Prelude.{◌≡◌, ◌≤◌, length, OnOk, OnErr};
+ghost use Rattle.std.specs.Prelude.{◌≡◌, OnOk, OnErr};
 ghost use Rattle.xv_base.specs.Calls.{CountRose};
 ghost use Rattle.xv_io.specs.Io.{TookFront, TookMore};
 
@@ -18,7 +18,6 @@ pub fn write_text<O: Sink>(sink: &mut O, text: &[u8]) -> Result<(), WriteFault>
     ensures fault { OnErr result (CountRose (O.faults sink.old) (O.faults sink.new)) }
     ensures quiet { OnOk result (O.faults sink.new ≡ O.faults sink.old) }
     ensures front { TookFront (O.taken sink.old) (O.taken sink.new) text.now }
-    ensures counts { O.faults sink.old ≤ O.faults sink.new }
 {
     let mut done = 0;
     while done < text.len() {

@@ -352,5 +352,5 @@ sound (l ∷ ls) d n rest before r h = elim (either (is_complete d)) [
       let a = later_none n (line_fault d l) (first_fault job_reader false (next_draft d l) (n + 1) ls rest) k in
       let s = sound ls (next_draft d l) (n + 1) rest (before ++ l ∷ []) (step_line d before l r more a.0) a.1 in
       let P : List (List (List ℕ)) → Type 0 = λ xs. IsWhole (last_state job_reader (next_draft d l) ls) xs in
-      rw (more, add-one) (subst P (append_assoc before (l ∷ []) (take (line_count job_reader (next_draft d l) ls) ls)) s)
+      rw (more, a.0, add-one) (subst P (append_assoc before (l ∷ []) (take (line_count job_reader (next_draft d l) ls) ls)) s)
 ]

@@ -13,7 +13,8 @@ use Rattle.xv_base.specs.Units.{Shape, shape_of}
 use Rattle.xv_base.specs.Layout.{IsGood}
 use Rattle.xv_text.specs.declared.row.Kind.TheVariants.{Number}
 use Rattle.xv_text.specs.Fields.{values, number_at, fault_if}
-use Rattle.xv_trace.specs.OpText.{is_word, head}
+use Rattle.xv_trace.specs.OpText.{head}
+use Rattle.xv_text.specs.Words.{is_spelled}
 use Rattle.xv_job.specs.declared.word.Word.{Word}
 use Rattle.xv_job.specs.declared.word.Word.TheVariants.{Job as JobWord, Pages, Disk, Streams, Credit, Outbox, Region, Rounds, Dirty}
 use Rattle.xv_job.specs.Draft.{Draft, first_draft, format_fault, draft_by, outside, region_fault, with_disk}
@@ -25,7 +26,7 @@ use Rattle.xv_job.proofs.Shapes.{pages_good, disk_good, not_above}
 
 -- the format that a line says
 abbrev pub format_said : List (List ℕ) → ℕ
-format_said args = if is_word (codes "2") (head args) then 2 else 1
+format_said args = if is_spelled (codes "2") (head args) then 2 else 1
 
 abbrev pub IsFormat : ℕ → Type 0
 IsFormat f = (f ≡ 1) ⊎ (f ≡ 2)
@@ -34,7 +35,7 @@ pub record IsFormatLine (args : List (List ℕ)) : Type 0 where
   pub format : IsFormat (format_said args)
   pub written : args ≡ decimal (format_said args) ∷ []
 
-format_cases : (a : List ℕ) (one two : Bool) → is_word (codes "1") a ≡ one → is_word (codes "2") a ≡ two → (one || two) ≡ true → IsFormatLine (a ∷ [])
+format_cases : (a : List ℕ) (one two : Bool) → is_spelled (codes "1") a ≡ one → is_spelled (codes "2") a ≡ two → (one || two) ≡ true → IsFormatLine (a ∷ [])
 format_cases a one true e f h =
     let text : codes "2" ≡ a = same_text (codes "2") a (sym f) in
     record { format = rw f (inr refl); written = rw f (ap (λ (t : List ℕ). t ∷ []) (sym text ∙ sym (decimal_digit 2 (lit< tt)))) }
@@ -46,16 +47,16 @@ format_cases a false false e f h = absurd (cc)
 one_field : (args : List (List ℕ)) (b : Bool) → (length args == 1 && b) ≡ true → length args ≡ 1
 one_field args b h = let e : (length args == 1) ≡ true = (and_parts (length args == 1) b h).0 in grind (arith, nat_tests)
 
-format_of : (args : List (List ℕ)) → length args ≡ 1 → (is_word (codes "1") (head args) || is_word (codes "2") (head args)) ≡ true → IsFormatLine args
+format_of : (args : List (List ℕ)) → length args ≡ 1 → (is_spelled (codes "1") (head args) || is_spelled (codes "2") (head args)) ≡ true → IsFormatLine args
 format_of [] e h = absurd (omega arith)
-format_of (a ∷ []) e h = format_cases a (is_word (codes "1") a) (is_word (codes "2") a) refl refl h
+format_of (a ∷ []) e h = format_cases a (is_spelled (codes "1") a) (is_spelled (codes "2") a) refl refl h
 format_of (a ∷ b ∷ more) e h = absurd (omega arith)
 
 pub format_read : (args : List (List ℕ)) → format_fault args ≡ None → IsFormatLine args
 format_read args h =
     let a = no_no _ (not_there _ _ h) in
-    let b = and_parts (length args == 1) (is_word (codes "1") (head args) || is_word (codes "2") (head args)) a in
-    format_of args (one_field args (is_word (codes "1") (head args) || is_word (codes "2") (head args)) a) b.1
+    let b = and_parts (length args == 1) (is_spelled (codes "1") (head args) || is_spelled (codes "2") (head args)) a in
+    format_of args (one_field args (is_spelled (codes "1") (head args) || is_spelled (codes "2") (head args)) a) b.1
 
 -- drafts whose lists are still empty
 abbrev pub config_of : ℕ → ℕ → ℕ → ℕ → ℕ → ℕ → Config

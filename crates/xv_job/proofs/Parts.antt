@@ -8,7 +8,8 @@ use Rattle.xv_base.specs.declared.text.LineWhy.TheVariants.{Order}
 use Rattle.xv_text.specs.Fields.{or_else, fault_if}
 use Rattle.xv_trace.specs.declared.op.Verb.{Verb}
 use Rattle.xv_trace.specs.declared.op.Verb.TheVariants.{Store as StoreVerb, Load as LoadVerb, Write as WriteVerb, Fetch as FetchVerb}
-use Rattle.xv_trace.specs.OpText.{is_word, verb_of}
+use Rattle.xv_trace.specs.OpText.{verb_of}
+use Rattle.xv_text.specs.Words.{is_spelled}
 use Rattle.xv_job.specs.declared.word.Word.{Word}
 use Rattle.xv_job.specs.declared.word.Word.TheVariants.{Job, Pages, Disk, Streams, Credit, Outbox, Region, Rounds, Dirty, Group, Cancel, Fault, Init, Guest, Operation, End}
 use Rattle.xv_job.specs.Words.{own_word, or_operation, word_of, rank, repeats, needed, is_group, may_come}
@@ -84,9 +85,9 @@ either false = inr refl
 pub some_once : {W : Type 0} (a b : W) → ◌≡◌ {A = Option W} (Some a) (Some b) → a ≡ b
 some_once a b e = cc
 
-pub chosen : {W : Type 0} (spell : W → List ℕ) (word text : List ℕ) (here : W) (later : Option W) (w : W) → word ≡ spell here → (later ≡ Some w → text ≡ spell w) → (if is_word word text then Some here else later) ≡ Some w → text ≡ spell w
+pub chosen : {W : Type 0} (spell : W → List ℕ) (word text : List ℕ) (here : W) (later : Option W) (w : W) → word ≡ spell here → (later ≡ Some w → text ≡ spell w) → (if is_spelled word text then Some here else later) ≡ Some w → text ≡ spell w
 chosen spell word text here later w s f e =
-    elim (either (is_word word text)) [
+    elim (either (is_spelled word text)) [
       | inl hit ↦ let same : word ≡ text = same_text word text (sym hit) in let k : Some here ≡ Some w = (rw hit at e) in sym same ∙ s ∙ ap spell (some_once here w k)
       | inr miss ↦ f (rw miss at e)
     ]

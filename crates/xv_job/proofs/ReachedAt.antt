@@ -10,9 +10,10 @@ use Rattle.xv_job.specs.declared.word.Word.TheVariants.{Pages, Disk, Operation}
 use Rattle.xv_job.specs.Written.{Written}
 use Rattle.xv_job.specs.Words.{may_come, rank, word_of, is_operation}
 use Rattle.xv_job.specs.Draft.{Draft, first_draft, next_draft, line_fault, is_in_traces, is_complete, operations_so_far, said}
-use Rattle.xv_job.specs.Held.{Leads, IsReached, Stops, behind_fault}
+use Rattle.xv_job.specs.Held.{Leads, IsReached, behind_fault}
+use Rattle.xv_text.specs.Reading.{Stops}
 use Rattle.xv_job.specs.Written.{ops_held}
-use Rattle.xv_job.specs.declared.held.Stop.{Stop}
+use Rattle.xv_text.specs.declared.reading.Stop.{Stop}
 use Rattle.xv_job.proofs.Parts.{comes}
 use Rattle.xv_job.proofs.Head.{at_start, at_job, at_pages, at_disk, at_streams, at_credit, at_outbox, at_region, at_rounds, at_dirty}
 use Rattle.xv_job.proofs.Backward.{Reached, in_head, in_body, at_end, step_line, operation_at}

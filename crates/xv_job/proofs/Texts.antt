@@ -40,7 +40,7 @@ are_read d n (l ∷ lines) more rest e done h =
     record {
       no_fault = rw (go, fine) next.no_fault;
       last = rw go next.last;
-      count = rw go (omega (arith, next.count));
+      count = rw (go, fine) (omega (arith, next.count));
     }
 
 -- the text of a good job, and what follows it

@@ -13,7 +13,8 @@ use Rattle.xv_text.specs.Fields.{Values, values, number_at, fields_fault, or_els
 use Rattle.xv_text.specs.Reading.{Reader}
 use Rattle.xv_trace.specs.declared.op.Op.{Op}
 use Rattle.xv_trace.specs.Operations.{op_fault, op_count, count_all}
-use Rattle.xv_trace.specs.OpText.{is_word, kinds_of, op_of, head, tail}
+use Rattle.xv_trace.specs.OpText.{kinds_of, op_of, head, tail}
+use Rattle.xv_text.specs.Words.{is_spelled}
 use Rattle.xv_job.specs.Written.{Written, fault_number}
 use Rattle.xv_job.specs.Words.{word_of, rank, may_come, kinds, call_of, call_kinds}
 use Rattle.xv_job.specs.declared.word.Call.{Call}
@@ -74,7 +75,7 @@ is_stream_of streams (AckTake k) = true
 -- then the first that is no number or no bytes
 abbrev pub format_fault : List (List ℕ) → Option LineWhy
 format_fault args =
-    fault_if (not (length args == 1 && (is_word (codes "1") (head args) || is_word (codes "2") (head args)))) BadWord
+    fault_if (not (length args == 1 && (is_spelled (codes "1") (head args) || is_spelled (codes "2") (head args)))) BadWord
 
 abbrev pub planned_fault : Option Call → List (List ℕ) → Option LineWhy
 planned_fault None args = Some BadWord
@@ -252,7 +253,7 @@ with_number w (Operation verb) n = w
 with_number w End n = w
 
 abbrev pub said : Written → Word → List (List ℕ) → Written
-said w JobWord args = record w { format = if is_word (codes "2") (head args) then 2 else 1 }
+said w JobWord args = record w { format = if is_spelled (codes "2") (head args) then 2 else 1 }
 said w Pages args = record w { shape = with_pages w.shape (number_at (values (kinds Pages) args) 0) (number_at (values (kinds Pages) args) 1) }
 said w Disk args = record w { shape = with_disk w.shape (number_at (values (kinds Disk) args) 0) (number_at (values (kinds Disk) args) 1) }
 said w Streams args = with_number w Streams (number_at (values (kinds Streams) args) 0)

@@ -8,8 +8,6 @@ use Rattle.xv_base.specs.Units.{Shape, shape_of}
 use Rattle.xv_text.specs.Fields.{or_else}
 use Rattle.xv_job.specs.declared.word.Word.{Word}
 use Rattle.xv_job.specs.declared.held.Held.{Held}
-use Rattle.xv_job.specs.declared.held.Stop.{Stop}
-use Rattle.xv_job.specs.declared.held.Stop.TheVariants.{Refused, NoMemory}
 use Rattle.xv_job.specs.Written.{Written, ops_held, AreTraces}
 use Rattle.xv_job.specs.Draft.{Draft, first_draft, next_draft, line_fault, is_complete, args_fault, numbers_fault, said, after_last, operations_so_far}
 
@@ -51,11 +49,6 @@ IsReached d = (lines : List (List (List ℕ))) × Leads first_draft lines d
 -- what is wrong with a line whose word may come: what follows the word, and then its numbers
 abbrev pub behind_fault : Written → Word → List (List ℕ) → Option LineWhy
 behind_fault w word args = or_else (args_fault word args) (numbers_fault w word args)
-
--- why reading stops: a fault that was found, or want of memory, which is free
-abbrev pub Stops : Option LineWhy → Stop → Type 0
-Stops fault (Refused why) = fault ≡ Some why
-Stops fault NoMemory = Unit {0}
 
 -- what a line without a fault does to what is held
 pub record IsTaken (word : Word) (args : List (List ℕ)) (old new : Held) : Type 0 where

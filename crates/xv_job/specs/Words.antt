@@ -3,7 +3,8 @@ use Rattle.std.specs.Prelude.{ℕ, ◌+◌, ◌==◌, ◌&&◌, ◌||◌, nat_lt
 use Rattle.xv_text.specs.declared.row.Kind.{Kind}
 use Rattle.xv_text.specs.declared.row.Kind.TheVariants.{Number, Bytes}
 use Rattle.xv_trace.specs.declared.op.Verb.{Verb}
-use Rattle.xv_trace.specs.OpText.{is_word, verb_of, kinds_of}
+use Rattle.xv_trace.specs.OpText.{verb_of, kinds_of}
+use Rattle.xv_text.specs.Words.{is_spelled}
 use Rattle.xv_job.specs.declared.word.Word.{Word}
 use Rattle.xv_job.specs.declared.word.Call.{Call}
 use Rattle.xv_job.specs.declared.word.Call.TheVariants.{SourceRead, SourceWrite, DestRead, DestWrite, Flush, Put, Take, AckPut, AckTake}
@@ -12,21 +13,21 @@ use Rattle.xv_job.specs.declared.word.Word.TheVariants.{Job, Pages, Disk, Stream
 -- the words of a job's own lines; those of operations are known behind the first guest
 abbrev pub own_word : List ℕ → Option Word
 own_word word =
-    if is_word (codes "job") word then Some Job
-    else (if is_word (codes "pages") word then Some Pages
-    else (if is_word (codes "disk") word then Some Disk
-    else (if is_word (codes "streams") word then Some Streams
-    else (if is_word (codes "credit") word then Some Credit
-    else (if is_word (codes "outbox") word then Some Outbox
-    else (if is_word (codes "region") word then Some Region
-    else (if is_word (codes "rounds") word then Some Rounds
-    else (if is_word (codes "dirty") word then Some Dirty
-    else (if is_word (codes "group") word then Some Group
-    else (if is_word (codes "cancel") word then Some Cancel
-    else (if is_word (codes "fault") word then Some Fault
-    else (if is_word (codes "init") word then Some Init
-    else (if is_word (codes "guest") word then Some Guest
-    else (if is_word (codes "end") word then Some End
+    if is_spelled (codes "job") word then Some Job
+    else (if is_spelled (codes "pages") word then Some Pages
+    else (if is_spelled (codes "disk") word then Some Disk
+    else (if is_spelled (codes "streams") word then Some Streams
+    else (if is_spelled (codes "credit") word then Some Credit
+    else (if is_spelled (codes "outbox") word then Some Outbox
+    else (if is_spelled (codes "region") word then Some Region
+    else (if is_spelled (codes "rounds") word then Some Rounds
+    else (if is_spelled (codes "dirty") word then Some Dirty
+    else (if is_spelled (codes "group") word then Some Group
+    else (if is_spelled (codes "cancel") word then Some Cancel
+    else (if is_spelled (codes "fault") word then Some Fault
+    else (if is_spelled (codes "init") word then Some Init
+    else (if is_spelled (codes "guest") word then Some Guest
+    else (if is_spelled (codes "end") word then Some End
     else None))))))))))))))
 
 abbrev pub or_operation : Option Word → Option Verb → Option Word
@@ -116,15 +117,15 @@ kinds End = []
 -- the words of the calls that may be planned to fail, and what follows each
 abbrev pub call_of : List ℕ → Option Call
 call_of word =
-    if is_word (codes "sread") word then Some SourceRead
-    else (if is_word (codes "swrite") word then Some SourceWrite
-    else (if is_word (codes "dread") word then Some DestRead
-    else (if is_word (codes "dwrite") word then Some DestWrite
-    else (if is_word (codes "flush") word then Some Flush
-    else (if is_word (codes "put") word then Some Put
-    else (if is_word (codes "take") word then Some Take
-    else (if is_word (codes "ackput") word then Some AckPut
-    else (if is_word (codes "acktake") word then Some AckTake
+    if is_spelled (codes "sread") word then Some SourceRead
+    else (if is_spelled (codes "swrite") word then Some SourceWrite
+    else (if is_spelled (codes "dread") word then Some DestRead
+    else (if is_spelled (codes "dwrite") word then Some DestWrite
+    else (if is_spelled (codes "flush") word then Some Flush
+    else (if is_spelled (codes "put") word then Some Put
+    else (if is_spelled (codes "take") word then Some Take
+    else (if is_spelled (codes "ackput") word then Some AckPut
+    else (if is_spelled (codes "acktake") word then Some AckTake
     else None))))))))
 
 abbrev pub call_kinds : Call → List Kind

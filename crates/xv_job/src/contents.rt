@@ -3,12 +3,13 @@
 ghost use Rattle.std.specs.Prelude.{◌≡◌, IfErr, OnOk};
 ghost use Rattle.xv_base.specs.Layout.{IsGood};
 ghost use Rattle.xv_job.specs.declared.word.Word.TheVariants.{Init as InitWord};
-ghost use Rattle.xv_job.specs.Held.{job_held, IsConsistent, IsTaken, Stops, behind_fault};
+ghost use Rattle.xv_job.specs.Held.{job_held, IsConsistent, IsTaken, behind_fault};
+ghost use Rattle.xv_text.specs.Reading.{Stops};
 
-use crate::held::{Held, Stop};
+use crate::held::Held;
 use crate::machine::known;
 use xv_base::{Init, LineWhy, UnitId};
-use xv_text::{Fields, Kind, read_fields};
+use xv_text::{Fields, Kind, Stop, read_fields};
 
 impl Held {
     /// Reads a first content.

@@ -4,18 +4,11 @@ ghost use Rattle.std.specs.Prelude.{◌≡◌, ◌≤◌, ◌<◌, ◌^◌, [], 
 ghost use Rattle.xv_base.specs.Units.{Shape, shape_of, units};
 ghost use Rattle.xv_base.specs.Layout.{IsGood, layout_fault};
 ghost use Rattle.xv_job.specs.Draft.{first_draft};
-ghost use Rattle.xv_job.specs.Held.{job_held, draft_held, shape_or_none, IsConsistent, IsTaken, Stops, behind_fault, limit_of};
+ghost use Rattle.xv_job.specs.Held.{job_held, draft_held, shape_or_none, IsConsistent};
 
 use std::alloc::Global;
 use xv_base::{Config, DiskShape, Fault, Init, Layout, LayoutFault, LineWhy};
 use xv_trace::Trace;
-
-/// Why reading a line stops.
-#[derive(Clone, Copy, Debug, PartialEq, Eq)]
-pub(crate) enum Stop {
-    Refused(LineWhy),
-    NoMemory,
-}
 
 /// A job as far as its lines have been read, with the rank of the last line, or 0.
 #[derive(Drop)]

@@ -26,7 +26,8 @@ pub use job::Job;
 pub use laws::{jobs_are_read_back, texts_begin_with_one_job, texts_say_jobs};
 pub use made::make_job;
 pub use print::print_job;
-pub use reading::{Place, read_job};
+pub use reading::read_job;
+pub use xv_text::Place;
 pub use word::{Call, Word};
 
 #[cfg(test)]

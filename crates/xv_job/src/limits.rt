@@ -4,12 +4,18 @@ ghost use Rattle.std.specs.Prelude.{◌≡◌, ◌≤◌, ◌<◌, ◌^◌, Some
 ghost use Rattle.xv_text.specs.Fields.{values, number_at};
 ghost use Rattle.xv_job.specs.Words.{kinds};
 ghost use Rattle.xv_job.specs.Draft.{outside, limit_fault, with_number, is_limit};
-ghost use Rattle.xv_job.specs.Held.{job_held, IsConsistent, IsTaken, Stops, behind_fault};
+ghost use Rattle.xv_job.specs.Held.{job_held, IsConsistent, IsTaken, behind_fault};
+ghost use Rattle.xv_text.specs.Reading.{Stops};
 
-use crate::held::{Held, Stop};
+use crate::held::Held;
 use crate::word::Word;
-use xv_base::LineWhy;
-use xv_text::{Fields, Kind, read_fields};
+use xv_base::{
+    LineWhy, MOST_CREDIT, MOST_DIRTY, MOST_GROUP, MOST_OUTBOX, MOST_REGION, MOST_ROUNDS, MOST_STREAMS,
+};
+use xv_text::{
+    Fields, Kind, LIMIT_OF_CREDIT, LIMIT_OF_DIRTY, LIMIT_OF_GROUP, LIMIT_OF_OUTBOX, LIMIT_OF_REGION,
+    LIMIT_OF_ROUNDS, LIMIT_OF_STREAMS, Stop, read_fields,
+};
 
 /// What is wrong with a number that is to be from `least` to `most`.
 fn outside(limit: u8, least: u32, most: u32, n: u32) -> Option<LineWhy>
@@ -28,19 +34,19 @@ impl Held {
         ensures { result ≡ limit_fault (job_held self.now) word n }
     {
         match word {
-            Word::Streams => outside(8, 1, 8, n),
-            Word::Credit => outside(9, 1, 1024, n),
-            Word::Outbox => outside(10, 1, 1024, n),
+            Word::Streams => outside(LIMIT_OF_STREAMS, 1, u32::from(MOST_STREAMS), n),
+            Word::Credit => outside(LIMIT_OF_CREDIT, 1, MOST_CREDIT, n),
+            Word::Outbox => outside(LIMIT_OF_OUTBOX, 1, MOST_OUTBOX, n),
             Word::Region => {
                 if n > self.config.outbox {
-                    Some(LineWhy::Limit(11))
+                    Some(LineWhy::Limit(LIMIT_OF_REGION))
                 } else {
-                    outside(11, 1, 256, n)
+                    outside(LIMIT_OF_REGION, 1, MOST_REGION, n)
                 }
             }
-            Word::Rounds => outside(12, 1, 64, n),
-            Word::Dirty => outside(13, 0, 1 << 20, n),
-            Word::Group => outside(18, 1, 16, n),
+            Word::Rounds => outside(LIMIT_OF_ROUNDS, 1, MOST_ROUNDS, n),
+            Word::Dirty => outside(LIMIT_OF_DIRTY, 0, MOST_DIRTY, n),
+            Word::Group => outside(LIMIT_OF_GROUP, 1, u32::from(MOST_GROUP), n),
             Word::Job
             | Word::Pages
             | Word::Disk

@@ -4,13 +4,14 @@ ghost use Rattle.std.specs.Prelude.{◌≡◌, false, true, None, IfErr, OnOk};
 ghost use Rattle.xv_text.specs.Lines.{fields};
 ghost use Rattle.xv_job.specs.Words.{may_come, is_operation};
 ghost use Rattle.xv_job.specs.Draft.{line_fault, next_draft, is_complete, is_in_traces};
-ghost use Rattle.xv_job.specs.Held.{job_held, draft_held, IsConsistent, IsReached, IsTaken, Stops, behind_fault};
+ghost use Rattle.xv_job.specs.Held.{job_held, draft_held, IsConsistent, IsReached, IsTaken, behind_fault};
+ghost use Rattle.xv_text.specs.Reading.{Stops};
 
-use crate::held::{Held, Stop};
-use crate::word::{Word, word_of};
+use crate::held::Held;
+use crate::word::{GUEST_RANK, Word, word_of};
 use std::alloc::Global;
 use xv_base::LineWhy;
-use xv_text::{Fields, first_field};
+use xv_text::{Fields, Stop, first_field};
 
 impl Held {
     /// Reads what follows a word that may come.
@@ -43,7 +44,7 @@ impl Held {
     }
 
     /// Reads a line.
-    pub(crate) fn read_line(&mut self, alloc: Global, line: &[u8]) -> Result<(), Stop>
+    pub(crate) fn take_line(&mut self, alloc: Global, line: &[u8]) -> Result<(), Stop>
         requires consistent { IsConsistent self.old }
         requires reached { IsReached (draft_held self.old) }
         requires more { is_complete (draft_held self.old) ≡ false }
@@ -54,7 +55,7 @@ impl Held {
         ensures stopped { IfErr result (Stops (line_fault (draft_held self.old) (fields line.now))) }
     {
         let (first, args) = first_field(line);
-        let Some(word) = word_of(self.last == 14, first) else {
+        let Some(word) = word_of(self.last == GUEST_RANK, first) else {
             return Err(Stop::Refused(LineWhy::BadWord));
         };
         if !word.may_come(self.format, self.last) {

@@ -5,20 +5,26 @@ ghost use Rattle.xv_base.specs.Units.{shape_of};
 ghost use Rattle.xv_base.specs.Layout.{IsGood, layout_fault};
 ghost use Rattle.xv_base.specs.declared.text.LineWhy.TheVariants.{BadWord};
 ghost use Rattle.xv_text.specs.Fields.{or_else};
-ghost use Rattle.xv_trace.specs.OpText.{is_word, head};
+ghost use Rattle.xv_trace.specs.OpText.{head};
+ghost use Rattle.xv_text.specs.Words.{is_spelled};
 ghost use Rattle.xv_job.specs.declared.word.Word.TheVariants.{Job as JobWord, Pages, Disk};
 ghost use Rattle.xv_job.specs.Draft.{format_fault, outside, size_fault, shape_fault, with_disk};
-ghost use Rattle.xv_job.specs.Held.{job_held, draft_held, shape_or_none, IsConsistent, IsTaken, Stops, behind_fault, limit_of};
+ghost use Rattle.xv_job.specs.Held.{job_held, draft_held, shape_or_none, IsConsistent, IsTaken, behind_fault, limit_of};
+ghost use Rattle.xv_text.specs.Reading.{Stops};
 
-use crate::held::{Held, Stop};
-use crate::word::is_word;
-use xv_base::{DiskShape, Layout, LayoutFault, LineWhy};
-use xv_text::{Fields, Kind, read_fields};
+use crate::held::Held;
+use xv_base::{
+    DiskShape, GROUP_FORMAT, Layout, LayoutFault, LineWhy, MOST_DISKS, MOST_UNITS, SINGLE_FORMAT,
+};
+use xv_text::{
+    Fields, Kind, LIMIT_OF_BLOCKS, LIMIT_OF_BYTES, LIMIT_OF_DISKS, LIMIT_OF_PAGES, LIMIT_OF_SIZE,
+    LIMIT_OF_UNITS, Stop, is_spelled, read_fields,
+};
 
 /// The job format that the fields say; none where they say none.
 fn format_of(args: &Fields) -> Option<u8>
     ensures good { IfSome result (λ format. format_fault args.now ≡ None) }
-    ensures is { IfSome result (λ format. format ≡ (if is_word (codes "2") (head args.now) then 2 else 1)) }
+    ensures is { IfSome result (λ format. format ≡ (if is_spelled (codes "2") (head args.now) then 2 else 1)) }
     ensures bad { IfNone result (format_fault args.now ≡ Some BadWord) }
 {
     let Some((field, rest)) = args.split_first() else {
@@ -27,10 +33,10 @@ fn format_of(args: &Fields) -> Option<u8>
     if !rest.is_done() {
         return None;
     }
-    if is_word(b"2", field) {
-        Some(2)
-    } else if is_word(b"1", field) {
-        Some(1)
+    if is_spelled(b"2", field) {
+        Some(GROUP_FORMAT)
+    } else if is_spelled(b"1", field) {
+        Some(SINGLE_FORMAT)
     } else {
         None
     }
@@ -41,10 +47,10 @@ fn limit_of(fault: LayoutFault) -> LineWhy
     ensures { result ≡ limit_of fault }
 {
     match fault {
-        LayoutFault::NoPage => LineWhy::Limit(2),
-        LayoutFault::BadSize(_) => LineWhy::Limit(3),
-        LayoutFault::TooManyUnits => LineWhy::Limit(6),
-        LayoutFault::TooManyBytes => LineWhy::Limit(7),
+        LayoutFault::NoPage => LineWhy::Limit(LIMIT_OF_PAGES),
+        LayoutFault::BadSize(_) => LineWhy::Limit(LIMIT_OF_SIZE),
+        LayoutFault::TooManyUnits => LineWhy::Limit(LIMIT_OF_UNITS),
+        LayoutFault::TooManyBytes => LineWhy::Limit(LIMIT_OF_BYTES),
     }
 }
 
@@ -54,8 +60,8 @@ fn pages_of(pages: u32, size: u32) -> Result<Layout, LineWhy>
     ensures good { IfOk result (λ layout. or_else (outside 2 1 (2 ^ 20) pages) (or_else (size_fault size) (shape_fault (shape_of pages size []))) ≡ None) }
     ensures bad { IfErr result (λ why. or_else (outside 2 1 (2 ^ 20) pages) (or_else (size_fault size) (shape_fault (shape_of pages size []))) ≡ Some why) }
 {
-    if pages < 1 || pages > 1 << 20 {
-        return Err(LineWhy::Limit(2));
+    if pages < 1 || pages > MOST_UNITS {
+        return Err(LineWhy::Limit(LIMIT_OF_PAGES));
     }
     match Layout::new(pages, size, &[]) {
         Ok(layout) => Ok(layout),
@@ -109,13 +115,13 @@ impl Held {
             Ok(row) => row,
             Err(why) => return Err(Stop::Refused(why)),
         };
-        if self.disks.len() >= 4 {
-            return Err(Stop::Refused(LineWhy::Limit(4)));
+        if self.disks.len() >= usize::from(MOST_DISKS) {
+            return Err(Stop::Refused(LineWhy::Limit(LIMIT_OF_DISKS)));
         }
         let blocks = row.number(0);
         let block_size = row.number(1);
-        if blocks < 1 || blocks > 1 << 20 {
-            return Err(Stop::Refused(LineWhy::Limit(5)));
+        if blocks < 1 || blocks > MOST_UNITS {
+            return Err(Stop::Refused(LineWhy::Limit(LIMIT_OF_BLOCKS)));
         }
         let layout = known(&self.layout);
         let disk = DiskShape { blocks, block_size };

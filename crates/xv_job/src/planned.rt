@@ -6,12 +6,13 @@ ghost use Rattle.xv_text.specs.Row.{IsRow};
 ghost use Rattle.xv_job.specs.declared.word.Word.TheVariants.{Fault as FaultWord};
 ghost use Rattle.xv_job.specs.Words.{call_kinds};
 ghost use Rattle.xv_job.specs.Draft.{fault_of, has_bad_number};
-ghost use Rattle.xv_job.specs.Held.{job_held, IsConsistent, IsTaken, Stops, behind_fault};
+ghost use Rattle.xv_job.specs.Held.{job_held, IsConsistent, IsTaken, behind_fault};
+ghost use Rattle.xv_text.specs.Reading.{Stops};
 
-use crate::held::{Held, Stop};
+use crate::held::Held;
 use crate::word::{Call, call_of};
-use xv_base::{Fault, LineWhy};
-use xv_text::{Fields, Kind, Row, read_fields};
+use xv_base::{Fault, LineWhy, MOST_FAULTS};
+use xv_text::{Fields, Kind, LIMIT_OF_FAULTS, LIMIT_OF_PLANNED, Row, Stop, read_fields};
 
 /// Reads the numbers behind the word of a call.
 fn read_call(call: Call, args: &Fields) -> Result<Row, LineWhy>
@@ -72,11 +73,11 @@ impl Held {
             Ok(row) => row,
             Err(why) => return Err(Stop::Refused(why)),
         };
-        if self.faults.len() >= 32 {
-            return Err(Stop::Refused(LineWhy::Limit(15)));
+        if self.faults.len() >= MOST_FAULTS as usize {
+            return Err(Stop::Refused(LineWhy::Limit(LIMIT_OF_FAULTS)));
         }
         let Some(fault) = fault_of(call, &row, self.config.streams) else {
-            return Err(Stop::Refused(LineWhy::Limit(16)));
+            return Err(Stop::Refused(LineWhy::Limit(LIMIT_OF_PLANNED)));
         };
         match self.faults.push(fault) {
             Ok(()) => Ok(()),

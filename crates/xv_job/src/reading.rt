@@ -1,26 +1,19 @@
 //! A job read from the front of a text.
 
 ghost use Rattle.std.specs.Prelude.{◌≡◌, ◌≤◌, ◌+◌, ◌++◌, ℕ, List, true, false, None, Some, length, take, IfOk};
-ghost use Rattle.xv_base.specs.declared.text.TextError.TheVariants.{Fault as FaultError};
 ghost use Rattle.xv_text.specs.Reading.{IfFault};
 ghost use Rattle.xv_job.specs.Written.{Written, IsGoodWritten, AreTraces};
 ghost use Rattle.xv_job.specs.JobText.{job_text, job_lines};
 ghost use Rattle.xv_job.specs.Held.{IsConsistent, job_held, shape_or_none};
 ghost use Rattle.xv_job.specs.Texts.{text_fault, job_said, UnlessNoMemory};
 
-use crate::held::{Held, Stop};
+use crate::held::Held;
 use crate::job::Job;
 use crate::machine::known;
+use crate::word::END_RANK;
 use std::alloc::Global;
-use xv_base::{LineFault, LineWhy, TextError};
-use xv_text::next_line;
-
-/// Where a text goes on: the number of bytes before, and the number of the next line, from 1.
-#[derive(Clone, Copy, Debug, PartialEq, Eq)]
-pub struct Place {
-    pub byte: usize,
-    pub line: u32,
-}
+use xv_base::TextError;
+use xv_text::{Place, ReadsLines, Stop, read_lines};
 
 impl Held {
     /// The job that is held.
@@ -42,11 +35,25 @@ impl Held {
     }
 }
 
-/// A fault at a line.
-fn at_line(line: u32, why: LineWhy) -> TextError
-    ensures { result ≡ FaultError (record { line = line; why = why }) }
-{
-    TextError::Fault(LineFault { line, why })
+impl ReadsLines for Held {
+    ghost use Rattle.xv_job.specs.Draft.{Draft, job_reader};
+    ghost use Rattle.xv_job.specs.Held.{IsConsistent as Consistent, IsReached, draft_held};
+
+    ghost State = { Draft };
+
+    ghost reader = { λ h. job_reader };
+
+    ghost state = { λ h. draft_held h };
+
+    ghost holds = { λ h. Consistent h × IsReached (draft_held h) };
+
+    fn is_ended(&self) -> bool {
+        self.last == END_RANK
+    }
+
+    fn read_line(&mut self, alloc: Global, line: &[u8]) -> Result<(), Stop> {
+        self.take_line(alloc, line)
+    }
 }
 
 /// Reads the job that a text begins with, of either job format; anything may follow its line `end`. It reads the text
@@ -63,20 +70,8 @@ pub fn read_job(alloc: Global, text: &[u8]) -> Result<(Job, Place), TextError>
     ensures fault { IfFault result (λ fault. text_fault text.now ≡ Some fault) }
 {
     let mut held = Held::new(alloc);
-    let mut rest = text;
-    let mut line = 1;
-    while held.last != 15 {
-        let Some((here, after)) = next_line(rest) else {
-            return Err(at_line(line, LineWhy::Unended));
-        };
-        match held.read_line(alloc, here) {
-            Ok(()) => {}
-            Err(Stop::Refused(why)) => return Err(at_line(line, why)),
-            Err(Stop::NoMemory) => return Err(TextError::NoMemory),
-        }
-        rest = after;
-        line += 1;
+    match read_lines(alloc, &mut held, text, 1, false) {
+        Ok(place) => Ok((held.into_job(), place)),
+        Err(error) => Err(error),
     }
-    let byte = text.len() - rest.len();
-    Ok((held.into_job(), Place { byte, line }))
 }

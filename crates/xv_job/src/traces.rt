@@ -6,18 +6,16 @@ ghost use Rattle.xv_trace.specs.Operations.{op_count, count_all};
 ghost use Rattle.xv_trace.specs.OpText.{IsGoodOp};
 ghost use Rattle.xv_job.specs.declared.word.Word.TheVariants.{Guest, End, Operation};
 ghost use Rattle.xv_job.specs.Draft.{with_op};
-ghost use Rattle.xv_job.specs.Held.{job_held, IsConsistent, IsTaken, Stops, behind_fault};
+ghost use Rattle.xv_job.specs.Held.{job_held, IsConsistent, IsTaken, behind_fault};
+ghost use Rattle.xv_text.specs.Reading.{Stops};
 ghost use Rattle.xv_job.specs.Written.{AreTraces, ops_held};
 
-use crate::held::{Held, Stop};
+use crate::held::Held;
 use crate::machine::known;
 use std::alloc::Global;
-use xv_base::{Layout, LineWhy, NoMemory};
-use xv_text::{Fields, read_fields};
+use xv_base::{Layout, LineWhy, MOST_GUESTS, MOST_OPERATIONS, NoMemory};
+use xv_text::{Fields, LIMIT_OF_CANCEL, LIMIT_OF_GUESTS, Stop, read_fields};
 use xv_trace::{Op, Trace, Verb, read_op};
-
-/// How many unit operations a job may have.
-const MOST_OPERATIONS: u32 = 1 << 20;
 
 /// Appends an operation to the last trace.
 fn push_op(layout: &Layout, traces: &mut Vec<Trace>, op: Op) -> Result<(), NoMemory>
@@ -44,8 +42,8 @@ impl Held {
         if let Err(why) = read_fields(&[], args) {
             return Err(Stop::Refused(why));
         }
-        if self.traces.len() >= 16 {
-            return Err(Stop::Refused(LineWhy::Limit(17)));
+        if self.traces.len() >= usize::from(MOST_GUESTS) {
+            return Err(Stop::Refused(LineWhy::Limit(LIMIT_OF_GUESTS)));
         }
         let trace = Trace::new(alloc, known(&self.layout));
         match self.traces.push(trace) {
@@ -87,7 +85,7 @@ impl Held {
             return Err(Stop::Refused(why));
         }
         match self.config.cancel {
-            Some(cancel) if cancel > self.operations => Err(Stop::Refused(LineWhy::Limit(14))),
+            Some(cancel) if cancel > self.operations => Err(Stop::Refused(LineWhy::Limit(LIMIT_OF_CANCEL))),
             Some(_) => Ok(()),
             None => Ok(()),
         }

@@ -1,10 +1,18 @@
 //! The words that lines of a job begin with, and which may come where.
 
 ghost use Rattle.std.specs.Prelude.{◌≡◌, ◌≤◌, ◌<◌, ◌↔◌, true, IsTrue};
-ghost use Rattle.xv_trace.specs.OpText.{is_word};
+ghost use Rattle.xv_text.specs.Words.{is_spelled};
 ghost use Rattle.xv_job.specs.Words.{own_word, word_of, rank, repeats, needed, is_group, may_come, call_of};
 
+use xv_base::GROUP_FORMAT;
+use xv_text::is_spelled;
 use xv_trace::{Verb, verb_of};
+
+/// The rank of a group's line, that of the lines of guests and their operations, and that of the end.
+const GROUP_RANK: u8 = 10;
+
+pub(crate) const GUEST_RANK: u8 = 14;
+pub(crate) const END_RANK: u8 = 15;
 
 /// The word of a line.
 #[derive(Clone, Copy, Debug, PartialEq, Eq)]
@@ -41,46 +49,39 @@ pub enum Call {
     AckTake,
 }
 
-/// Whether a word is spelled so.
-pub(crate) fn is_word(spelling: &[u8], word: &[u8]) -> bool
-    ensures { result ≡ is_word spelling.now word.now }
-{
-    spelling == word
-}
-
 /// The word of a job's own line; none where it is not known.
 pub(crate) fn own_word(word: &[u8]) -> Option<Word>
     ensures { result ≡ own_word word.now }
 {
-    if is_word(b"job", word) {
+    if is_spelled(b"job", word) {
         Some(Word::Job)
-    } else if is_word(b"pages", word) {
+    } else if is_spelled(b"pages", word) {
         Some(Word::Pages)
-    } else if is_word(b"disk", word) {
+    } else if is_spelled(b"disk", word) {
         Some(Word::Disk)
-    } else if is_word(b"streams", word) {
+    } else if is_spelled(b"streams", word) {
         Some(Word::Streams)
-    } else if is_word(b"credit", word) {
+    } else if is_spelled(b"credit", word) {
         Some(Word::Credit)
-    } else if is_word(b"outbox", word) {
+    } else if is_spelled(b"outbox", word) {
         Some(Word::Outbox)
-    } else if is_word(b"region", word) {
+    } else if is_spelled(b"region", word) {
         Some(Word::Region)
-    } else if is_word(b"rounds", word) {
+    } else if is_spelled(b"rounds", word) {
         Some(Word::Rounds)
-    } else if is_word(b"dirty", word) {
+    } else if is_spelled(b"dirty", word) {
         Some(Word::Dirty)
-    } else if is_word(b"group", word) {
+    } else if is_spelled(b"group", word) {
         Some(Word::Group)
-    } else if is_word(b"cancel", word) {
+    } else if is_spelled(b"cancel", word) {
         Some(Word::Cancel)
-    } else if is_word(b"fault", word) {
+    } else if is_spelled(b"fault", word) {
         Some(Word::Fault)
-    } else if is_word(b"init", word) {
+    } else if is_spelled(b"init", word) {
         Some(Word::Init)
-    } else if is_word(b"guest", word) {
+    } else if is_spelled(b"guest", word) {
         Some(Word::Guest)
-    } else if is_word(b"end", word) {
+    } else if is_spelled(b"end", word) {
         Some(Word::End)
     } else {
         None
@@ -91,23 +92,23 @@ pub(crate) fn own_word(word: &[u8]) -> Option<Word>
 pub(crate) fn call_of(word: &[u8]) -> Option<Call>
     ensures { result ≡ call_of word.now }
 {
-    if is_word(b"sread", word) {
+    if is_spelled(b"sread", word) {
         Some(Call::SourceRead)
-    } else if is_word(b"swrite", word) {
+    } else if is_spelled(b"swrite", word) {
         Some(Call::SourceWrite)
-    } else if is_word(b"dread", word) {
+    } else if is_spelled(b"dread", word) {
         Some(Call::DestRead)
-    } else if is_word(b"dwrite", word) {
+    } else if is_spelled(b"dwrite", word) {
         Some(Call::DestWrite)
-    } else if is_word(b"flush", word) {
+    } else if is_spelled(b"flush", word) {
         Some(Call::Flush)
-    } else if is_word(b"put", word) {
+    } else if is_spelled(b"put", word) {
         Some(Call::Put)
-    } else if is_word(b"take", word) {
+    } else if is_spelled(b"take", word) {
         Some(Call::Take)
-    } else if is_word(b"ackput", word) {
+    } else if is_spelled(b"ackput", word) {
         Some(Call::AckPut)
-    } else if is_word(b"acktake", word) {
+    } else if is_spelled(b"acktake", word) {
         Some(Call::AckTake)
     } else {
         None
@@ -144,13 +145,13 @@ impl Word {
             Word::Region => 7,
             Word::Rounds => 8,
             Word::Dirty => 9,
-            Word::Group => 10,
+            Word::Group => GROUP_RANK,
             Word::Cancel => 11,
             Word::Fault => 12,
             Word::Init => 13,
-            Word::Guest => 14,
-            Word::Operation(_) => 14,
-            Word::End => 15,
+            Word::Guest => GUEST_RANK,
+            Word::Operation(_) => GUEST_RANK,
+            Word::End => END_RANK,
         }
     }
 
@@ -186,7 +187,7 @@ impl Word {
         if rank > needed(format, last) {
             return false;
         }
-        format == 2 || rank != 10
+        format == GROUP_FORMAT || rank != GROUP_RANK
     }
 }
 
@@ -199,8 +200,8 @@ fn needed(format: u8, last: u8) -> u8
         0..=1 => last + 1,
         2..=3 => 4,
         4..=8 => last + 1,
-        9 => { if format == 2 { 10 } else { 14 } }
-        10..=13 => 14,
-        _ => 15,
+        9 => { if format == GROUP_FORMAT { GROUP_RANK } else { GUEST_RANK } }
+        10..=13 => GUEST_RANK,
+        _ => END_RANK,
     }
 }

@@ -11,17 +11,22 @@ ghost use Rattle.xv_parts.specs.Memory.{pipe_begun, stream_pipe, begun_in_memory
 
 use crate::plans::{back_plan, dest_plan, source_plan, stream_plan};
 use std::alloc::Global;
-use xv_base::{Init, NoMemory};
+use xv_base::{Init, NoMemory, SINGLE_FORMAT};
 use xv_core::Migration;
 use xv_device::{DevicePlan, MemDevice};
 use xv_job::Job;
-use xv_wire::MemWire;
+use xv_wire::{LEAST_PUT, MemWire};
 
 /// The migration over devices and wires in memory.
 pub type Machine = Migration<MemDevice, MemDevice, MemWire>;
 
 /// The greatest number of bytes that a take gives.
 const PIECE: u32 = 700;
+
+/// How many bytes a frame has beside one message's content, where it is of a message alone, and where it is of a group.
+const SINGLE_HEAD: u32 = 24;
+
+const GROUP_HEAD: u32 = 44;
 
 /// A migration of this job over devices and wires in memory, in which nothing has happened. The source begins with the
 /// job's contents, and the destination with zeros; a call fails where the job's faults name its number.
@@ -101,18 +106,22 @@ fn way_back(alloc: Global, job: &Job) -> Result<MemWire, NoMemory>
 /// How many bytes a stream's wire has room for.
 fn stream_room(job: &Job) -> u32
     ensures exactly { result ≡ stream_room (job_of job.now) }
-    ensures a_frame { 24 ≤ result }
+    ensures a_frame { LEAST_PUT ≤ result }
 {
     let _ = job.operations();
-    let head = if job.format == 1 { 24 } else { 44 };
+    let head = if job.format == SINGLE_FORMAT {
+        SINGLE_HEAD
+    } else {
+        GROUP_HEAD
+    };
     job.config.credit * (head + job.layout.max_size())
 }
 
 /// How many bytes the wire back has room for.
 fn back_room(job: &Job) -> u32
     ensures exactly { result ≡ back_room (job_of job.now) }
-    ensures a_frame { 24 ≤ result }
+    ensures a_frame { LEAST_PUT ≤ result }
 {
     let _ = job.operations();
-    24 * job.config.credit
+    SINGLE_HEAD * job.config.credit
 }

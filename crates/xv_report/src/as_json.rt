@@ -1,11 +1,11 @@
 //! The report of a migration as JSON.
 
-ghost use Rattle.std.specs.Prelude.{◌≡◌, ◌≤◌, IfOk, IfSome, IsErrOf, OnOk, OnErr};
+ghost use Rattle.std.specs.Prelude.{◌≡◌, IfOk, IfSome, IsErrOf, OnOk};
 ghost use Rattle.serde_json.specs.Data.{put as with_member, string, object, no_members};
 ghost use Rattle.serde_json.specs.View.{view, members_view};
 ghost use Rattle.xv_base.specs.Calls.{CountRose};
 ghost use Rattle.xv_io.specs.Io.{TookFront, TookMore};
-ghost use Rattle.xv_report.specs.Json.{number_value, stun_value, put_workers, with_state, with_work, with_tally, report_value, report_json, TellsEach};
+ghost use Rattle.xv_report.specs.Json.{number_value, put_workers, with_state, with_work, with_tally, report_value, report_json, TellsEach};
 ghost use Rattle.xv_report.specs.Workers.{worker_name, AreDistinct, HasSmallNumber, HaveSmallNumbers, tally_of};
 
 use crate::counts::{Count, Counts};
@@ -76,9 +76,9 @@ pub fn write_report_json<O: Sink>(
     requires { IfSome (tally_of counts) (λ tally. AreDistinct tally.workers) }
     ensures whole { OnOk result (TookMore (O.taken sink.old) (O.taken sink.new) (report_json totals.now (tally_of counts.entry))) }
     ensures fault { IsErrOf result JsonFault.WriteFault → CountRose (O.faults sink.old) (O.faults sink.new) }
+    ensures quiet { ¬ IsErrOf result JsonFault.WriteFault → O.faults sink.new ≡ O.faults sink.old }
     ensures memory { IsErrOf result JsonFault.NoMemory → O.taken sink.new ≡ O.taken sink.old }
     ensures front { TookFront (O.taken sink.old) (O.taken sink.new) (report_json totals.now (tally_of counts.entry)) }
-    ensures counts { O.faults sink.old ≤ O.faults sink.new }
 {
     let line = report_line(alloc, totals, counts)?;
     Ok(write_text(sink, &line)?)

@@ -30,8 +30,8 @@ pub fn write_image<O: Sink>(
     requires dest_layout { dest.now.shape ≡ layout.now }
     ensures whole { OnOk result (TookMore (O.taken sink.old) (O.taken sink.new) (image_text source.now.contents dest.now.contents)) }
     ensures fault { OnErr result (CountRose (O.faults sink.old) (O.faults sink.new)) }
+    ensures quiet { OnOk result (O.faults sink.new ≡ O.faults sink.old) }
     ensures front { TookFront (O.taken sink.old) (O.taken sink.new) (image_text source.now.contents dest.now.contents) }
-    ensures counts { O.faults sink.old ≤ O.faults sink.new }
 {
     let _ = layout;
     write_side(b"src", source, sink)?;
@@ -42,8 +42,8 @@ fn write_side<O: Sink>(side: &[u8], device: &MemDevice, sink: &mut O) -> Result<
     requires { length side.now ≤ 8 }
     ensures whole { OnOk result (TookMore (O.taken sink.old) (O.taken sink.new) (side_text side.now device.now.contents)) }
     ensures fault { OnErr result (CountRose (O.faults sink.old) (O.faults sink.new)) }
+    ensures quiet { OnOk result (O.faults sink.new ≡ O.faults sink.old) }
     ensures front { TookFront (O.taken sink.old) (O.taken sink.new) (side_text side.now device.now.contents) }
-    ensures counts { O.faults sink.old ≤ O.faults sink.new }
 {
     for unit in 0..device.layout().units() {
         write_unit(side, unit, device.content(UnitId(unit)), sink)?;
@@ -55,8 +55,8 @@ fn write_unit<O: Sink>(side: &[u8], unit: u32, bytes: &[u8], sink: &mut O) -> Re
     requires { length side.now ≤ 8 }
     ensures whole { OnOk result (TookMore (O.taken sink.old) (O.taken sink.new) (unit_line side.now unit bytes.now)) }
     ensures fault { OnErr result (CountRose (O.faults sink.old) (O.faults sink.new)) }
+    ensures quiet { OnOk result (O.faults sink.new ≡ O.faults sink.old) }
     ensures front { TookFront (O.taken sink.old) (O.taken sink.new) (unit_line side.now unit bytes.now) }
-    ensures counts { O.faults sink.old ≤ O.faults sink.new }
 {
     if is_zero(bytes) {
         Ok(())
@@ -69,8 +69,8 @@ fn write_line<O: Sink>(side: &[u8], unit: u32, bytes: &[u8], sink: &mut O) -> Re
     requires { length side.now ≤ 8 }
     ensures whole { OnOk result (TookMore (O.taken sink.old) (O.taken sink.new) (full_line side.now unit bytes.now)) }
     ensures fault { OnErr result (CountRose (O.faults sink.old) (O.faults sink.new)) }
+    ensures quiet { OnOk result (O.faults sink.new ≡ O.faults sink.old) }
     ensures front { TookFront (O.taken sink.old) (O.taken sink.new) (full_line side.now unit bytes.now) }
-    ensures counts { O.faults sink.old ≤ O.faults sink.new }
 {
     write_text(sink, unit_head(side, unit).bytes())?;
     write_hex(bytes, sink)?;
@@ -80,8 +80,8 @@ fn write_line<O: Sink>(side: &[u8], unit: u32, bytes: &[u8], sink: &mut O) -> Re
 fn write_hex<O: Sink>(bytes: &[u8], sink: &mut O) -> Result<(), WriteFault>
     ensures whole { OnOk result (TookMore (O.taken sink.old) (O.taken sink.new) (hex bytes.now)) }
     ensures fault { OnErr result (CountRose (O.faults sink.old) (O.faults sink.new)) }
+    ensures quiet { OnOk result (O.faults sink.new ≡ O.faults sink.old) }
     ensures front { TookFront (O.taken sink.old) (O.taken sink.new) (hex bytes.now) }
-    ensures counts { O.faults sink.old ≤ O.faults sink.new }
 {
     let mut done = 0;
     while done < bytes.len() {
@@ -97,8 +97,8 @@ fn write_piece<O: Sink>(bytes: &[u8], room: &mut [u8], sink: &mut O) -> Result<(
     requires { 2 * length bytes.now ≤ length room.old }
     ensures whole { OnOk result (TookMore (O.taken sink.old) (O.taken sink.new) (hex bytes.now)) }
     ensures fault { OnErr result (CountRose (O.faults sink.old) (O.faults sink.new)) }
+    ensures quiet { OnOk result (O.faults sink.new ≡ O.faults sink.old) }
     ensures front { TookFront (O.taken sink.old) (O.taken sink.new) (hex bytes.now) }
-    ensures counts { O.faults sink.old ≤ O.faults sink.new }
 {
     let digits = &mut room[..2 * bytes.len()];
     put_hex(bytes, digits);

@@ -22,8 +22,8 @@ pub fn write_report<O: Sink>(
 ) -> Result<(), WriteFault>
     ensures whole { OnOk result (TookMore (O.taken sink.old) (O.taken sink.new) (report_text totals.now (tally_of counts.entry))) }
     ensures fault { OnErr result (CountRose (O.faults sink.old) (O.faults sink.new)) }
+    ensures quiet { OnOk result (O.faults sink.new ≡ O.faults sink.old) }
     ensures front { TookFront (O.taken sink.old) (O.taken sink.new) (report_text totals.now (tally_of counts.entry)) }
-    ensures counts { O.faults sink.old ≤ O.faults sink.new }
 {
     write_text(sink, report(totals).bytes())?;
     match counts {
@@ -35,8 +35,8 @@ pub fn write_report<O: Sink>(
 fn write_counts<O: Sink>(counts: &Counts, sink: &mut O) -> Result<(), WriteFault>
     ensures whole { OnOk result (TookMore (O.taken sink.old) (O.taken sink.new) (tally_rows counts.now)) }
     ensures fault { OnErr result (CountRose (O.faults sink.old) (O.faults sink.new)) }
+    ensures quiet { OnOk result (O.faults sink.new ≡ O.faults sink.old) }
     ensures front { TookFront (O.taken sink.old) (O.taken sink.new) (tally_rows counts.now) }
-    ensures counts { O.faults sink.old ≤ O.faults sink.new }
 {
     write_workers(&counts.workers, sink)?;
     let mut line = LineBuf::new();
@@ -47,8 +47,8 @@ fn write_counts<O: Sink>(counts: &Counts, sink: &mut O) -> Result<(), WriteFault
 fn write_workers<O: Sink>(counts: &[Count], sink: &mut O) -> Result<(), WriteFault>
     ensures whole { OnOk result (TookMore (O.taken sink.old) (O.taken sink.new) (flat_map worker_row counts.now)) }
     ensures fault { OnErr result (CountRose (O.faults sink.old) (O.faults sink.new)) }
+    ensures quiet { OnOk result (O.faults sink.new ≡ O.faults sink.old) }
     ensures front { TookFront (O.taken sink.old) (O.taken sink.new) (flat_map worker_row counts.now) }
-    ensures counts { O.faults sink.old ≤ O.faults sink.new }
 {
     for count in counts {
         write_text(sink, worker_line(*count).bytes())?;

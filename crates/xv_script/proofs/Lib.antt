@@ -1,3 +1,3 @@
-pub mod Progress
+pub mod Few
 pub mod Sayings
 pub mod Scripts

@@ -1,8 +1,5 @@
 -- The words of a script one by one: how each is spelled, what it says, and by which word each line is said.
 use Rattle.std.proofs.Common.{◌≡◌, ℕ, zero, suc, ◌<◌, ◌^◌, Bool, true, List, [], ◌∷◌, ◌++◌, length, codes, decimal, Option, Some, None, refl, sym, subst, arith, inl, inr, lt-ltb, ltb-true}
-use Rattle.std.specs.List.{find}
-use Rattle.std.specs.Cmp.Lexicographic.{same_text}
-use Rattle.std.proofs.lemmas.Bool.{cases_Bool}
 use Rattle.xv_base.specs.declared.event.Event.{Event}
 use Rattle.xv_base.specs.declared.event.Event.TheVariants.{Guest, Begin, Read, Advance, Release, Round, Page, Send, Deliver, Apply, Ack, Credit, Stun, Switch, Cancel}
 use Rattle.xv_text.specs.Lines.{line}
@@ -10,8 +7,8 @@ use Rattle.xv_text.specs.Fields.{values, number_at, fields_fault}
 use Rattle.xv_text.specs.declared.row.Kind.TheVariants.{Number}
 use Rattle.xv_text.proofs.Apart.{IsPlain, ArePlain, decimal_plain}
 use Rattle.xv_text.proofs.Numbers.{number-decimal}
+use Rattle.xv_text.proofs.Found.{found_spelled}
 use Rattle.xv_text.proofs.Spelled.{spelled-values, fields_fault-spelled}
-use Rattle.xv_trace.specs.OpText.{is_word}
 use Rattle.xv_model.specs.Job.{Job, guest_count, unit_count}
 use Rattle.xv_script.specs.Lines.{line_words}
 use Rattle.xv_script.specs.Words.{spelling, words, word_of, named, kinds, line_said}
@@ -24,22 +21,10 @@ use Rattle.xv_script.specs.declared.word.Named.TheVariants.{Nothing, OfGuests, O
 use Rattle.xv_script.specs.declared.word.Word.{Word}
 use Rattle.xv_script.specs.declared.word.Word.TheVariants.{Guest as GuestWord, Begin as BeginWord, Read as ReadWord, Advance as AdvanceWord, Release as ReleaseWord, Round as RoundWord, Page as PageWord, Send as SendWord, Deliver as DeliverWord, Apply as ApplyWord, Ack as AckWord, Credit as CreditWord, Stun as StunWord, Switch as SwitchWord, Cancel as CancelWord, Probe as ProbeWord, Stop as StopWord}
 
--- what is found passes the test
-find_passes : {X : Type 0} (p : X → Bool) (xs : List X) (x : X) → find p xs ≡ Some x → p x ≡ true
-find_passes p [] x h = absurd (cc)
-find_passes {X = X} p (y ∷ ys) x h = elim (cases_Bool (p y)) [
-  | inl passes ↦
-      let found : Some y ≡ Some x = rw passes at h in
-      let same : y ≡ x = cc in
-      let P : X → Type 0 = λ z. p z ≡ true in
-      subst P same passes
-  | inr fails ↦ let later : find p ys ≡ Some x = rw fails at h in find_passes p ys x later
-]
-
 -- a word is known by its spelling alone
 pub spelled : (field : List ℕ) (word : Word) → word_of field ≡ Some word → field ≡ spelling word
 unfolding word_of
-spelled field word h = sym (same_text (spelling word) field (sym (find_passes (λ w. is_word (spelling w) field) words word h)))
+spelled field word h = found_spelled spelling words field word h
 
 pub word_of-spelling : (word : Word) → word_of (spelling word) ≡ Some word
 unfolding word_of

@@ -9,26 +9,27 @@ use Rattle.xv_base.specs.declared.text.TextError.TheVariants.{Fault, NoMemory}
 use Rattle.xv_base.specs.declared.text.LineWhy.{LineWhy}
 use Rattle.xv_base.specs.declared.text.LineWhy.TheVariants.{BadWord, OutOfRange}
 use Rattle.xv_text.specs.Lines.{has_rest, lines_of, line, text_of}
-use Rattle.xv_text.specs.Fields.{fields_fault, fault_if}
+use Rattle.xv_text.specs.Fields.{fields_fault}
 use Rattle.xv_text.specs.Reading.{first_fault, last_state, at_line_or}
-use Rattle.xv_text.proofs.Rows.{none_of_both}
+use Rattle.xv_text.proofs.Rows.{none_of_both, no_fault_if}
 use Rattle.xv_text.proofs.Apart.{ArePlainLines, lines_of-text_of, has_rest-text_of, text_of-lines_of}
 use Rattle.xv_text.specs.Reading.{IfFault}
 use Rattle.xv_model.specs.Job.{Job}
 use Rattle.xv_script.specs.Lines.{line_words, script_text}
 use Rattle.xv_script.specs.Words.{spelling, word_of, named, kinds, line_said}
-use Rattle.xv_script.specs.Script.{first_script, counts_of, count_of, number_said, range_fault, word_fault, line_fault, line_by, line_in, with_line, script_reader, text_fault, text_lines, is_in, IsScriptOf}
+use Rattle.xv_script.specs.Script.{Script, first_script, counts_of, count_of, number_said, range_fault, word_fault, line_fault, line_by, line_in, with_line, script_reader, text_fault, text_lines, is_in, IsScriptOf}
 use Rattle.xv_script.specs.declared.counts.Counts.{Counts}
 use Rattle.xv_script.specs.declared.line.Line.{Line}
 use Rattle.xv_script.specs.declared.word.Word.{Word}
 use Rattle.xv_script.specs.declared.word.Word.TheVariants.{Stop as StopWord}
-use Rattle.xv_script.proofs.Progress.{so_far, stopped}
 use Rattle.xv_script.proofs.Sayings.{spelled, word_of-spelling, behind, fields_said, text_said, line-fields_said, behind_read, behind_said, AreSmall, said_in, said_in-job, word_in, number_in, line_back, line_there, line_fields, fields_plain}
 
--- a test that finds nothing
-no_fault_if : (there : Bool) (why : LineWhy) → fault_if there why ≡ None → there ≡ false
-no_fault_if true why h = absurd (cc)
-no_fault_if false why h = refl
+-- a script that goes on, and one that has stopped
+abbrev so_far : List Line → Script
+so_far lines = record { lines = lines; stopped = false }
+
+abbrev stopped : List Line → Script
+stopped lines = record { lines = lines; stopped = true }
 
 -- a line without a fault: it is the text of what it says, which is in the job
 record IsLine (job : Job) (l : List (List ℕ)) (said : Option Line) : Type 0 where

@@ -3,7 +3,7 @@ use Rattle.std.specs.Prelude.{ℕ, List, [], ◌∷◌, codes, Option, Some, Non
 use Rattle.xv_base.specs.declared.event.Event.TheVariants.{Guest, Begin, Read, Advance, Release, Round, Page, Send, Deliver, Apply, Ack, Credit, Stun, Switch, Cancel}
 use Rattle.xv_text.specs.declared.row.Kind.{Kind}
 use Rattle.xv_text.specs.declared.row.Kind.TheVariants.{Number}
-use Rattle.xv_trace.specs.OpText.{is_word}
+use Rattle.xv_text.specs.Words.{is_spelled}
 use Rattle.xv_script.specs.declared.line.Line.{Line}
 use Rattle.xv_script.specs.declared.line.Line.TheVariants.{Step, Ask}
 use Rattle.xv_script.specs.declared.word.Named.{Named}
@@ -54,7 +54,7 @@ words =
 
 -- the word that a field is, where it is one
 unfoldable pub word_of : List ℕ → Option Word
-word_of field = find (λ word. is_word (spelling word) field) words
+word_of field = find (λ word. is_spelled (spelling word) field) words
 
 -- what the number behind a word names; behind a word that names nothing stands no number
 abbrev pub named : Word → Named

@@ -13,9 +13,9 @@ use crate::counts::{Counts, counts_of};
 use crate::line::Line;
 use crate::word::{Word, word_of};
 use std::alloc::Global;
-use xv_base::{Event, GuestId, LineFault, LineWhy, TextError, UnitId};
+use xv_base::{Event, GuestId, LineWhy, TextError, UnitId};
 use xv_job::Job;
-use xv_text::{first_field, next_line, read_fields};
+use xv_text::{ReadsLines, Stop, first_field, read_fields, read_lines};
 
 /// The lines of a script of a job, to its line `stop`, which ends the text. The first line of the text has the
 /// number `first_line`; with the line feeds of the text it comes to less than 2^32.
@@ -35,11 +35,11 @@ pub fn read_events(
     ensures only { IfOk result (λ found. (lines : List LineRecord) → IsScriptOf (job_of job.now) lines → text.now ≡ script_text lines → found.items ≡ lines) }
     ensures refused { IfFault result (λ fault. (lines : List LineRecord) → IsScriptOf (job_of job.now) lines → text.now ≢ script_text lines) }
 {
-    read_lines(alloc, counts_of(job), text, first_line)
+    read_counted(alloc, counts_of(job), text, first_line)
 }
 
 /// The lines of a script where there are so many of what its lines name.
-pub(crate) fn read_lines(
+pub(crate) fn read_counted(
     alloc: Global,
     counts: Counts,
     text: &[u8],
@@ -50,34 +50,53 @@ pub(crate) fn read_lines(
     ensures no_fault { IfOk result (λ lines. text_fault counts first_line text.now ≡ None) }
     ensures lines { IfOk result (λ lines. lines.items ≡ text_lines counts text.now) }
 {
-    let mut lines = Vec::new(alloc);
-    let mut number = first_line;
-    let mut rest = text;
-    while let Some((line, more)) = next_line(rest) {
-        let found = match read_line(counts, line) {
-            Ok(found) => found,
-            Err(why) => return Err(fault(number, why)),
-        };
-        let Some(line) = found else {
-            return if more.is_empty() {
-                Ok(lines)
-            } else {
-                Err(fault(number + 1, LineWhy::Order))
-            };
-        };
-        let Ok(()) = lines.push(line) else {
-            return Err(TextError::NoMemory);
-        };
-        number += 1;
-        rest = more;
+    let mut read = LinesRead {
+        counts,
+        lines: Vec::new(alloc),
+        is_stopped: false,
+    };
+    match read_lines(alloc, &mut read, text, first_line, true) {
+        Ok(_) => Ok(read.lines),
+        Err(error) => Err(error),
     }
-    Err(fault(number, LineWhy::Unended))
 }
 
-fn fault(line: u32, why: LineWhy) -> TextError
-    ensures { result ≡ TextError.Fault (record { line = line; why = why }) }
-{
-    TextError::Fault(LineFault { line, why })
+/// A script as far as its lines have been read, where there are so many of what its lines name.
+#[derive(Drop)]
+struct LinesRead {
+    counts: Counts,
+    lines: Vec<Line>,
+    is_stopped: bool,
+}
+
+impl ReadsLines for LinesRead {
+    ghost use Rattle.xv_script.specs.Script.{Script, reader as script_table};
+
+    ghost State = { Script };
+
+    ghost reader = { λ r. script_table r.counts };
+
+    ghost state = { λ r. record { lines = r.lines.items; stopped = r.is_stopped } };
+
+    ghost holds = { λ r. Unit {0} };
+
+    fn is_ended(&self) -> bool {
+        self.is_stopped
+    }
+
+    fn read_line(&mut self, _alloc: Global, line: &[u8]) -> Result<(), Stop> {
+        match read_line(self.counts, line) {
+            Ok(Some(line)) => match self.lines.push(line) {
+                Ok(()) => Ok(()),
+                Err(_) => Err(Stop::NoMemory),
+            },
+            Ok(None) => {
+                self.is_stopped = true;
+                Ok(())
+            }
+            Err(why) => Err(Stop::Refused(why)),
+        }
+    }
 }
 
 /// What a line says; none where it is `stop`.

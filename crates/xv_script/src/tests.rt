@@ -1,7 +1,7 @@
 //! How answers read, and why scripts are refused.
 
 use crate::counts::Counts;
-use crate::read::read_lines;
+use crate::read::read_counted;
 use crate::{Line, print_probe, print_turn, read_events};
 use std::test::Fail;
 use xv_base::{
@@ -133,11 +133,11 @@ fn prints_a_unit(rt: HostRuntime) {
 }
 
 #[test]
-#[tactic(auto, using(crate::proofs::Progress::few_lines))]
+#[tactic(auto, using(crate::proofs::Few::few_lines))]
 fn refuses_texts(rt: HostRuntime) {
     for (text, line, why) in REFUSED {
         assert!(rt; text.len() < 100);
-        match read_lines(rt.alloc(), COUNTS, text, 10) {
+        match read_counted(rt.alloc(), COUNTS, text, 10) {
             Err(error) => assert_eq!(rt; error, TextError::Fault(LineFault { line, why })),
             Ok(_) => assert!(rt; false),
         }
@@ -145,7 +145,7 @@ fn refuses_texts(rt: HostRuntime) {
 }
 
 #[test]
-#[tactic(auto, using(crate::proofs::Progress::few_lines))]
+#[tactic(auto, using(crate::proofs::Few::few_lines))]
 fn reads_every_line(rt: HostRuntime) -> Result<(), Fail> {
     let (job, place) = read_job(rt.alloc(), JOB).expect(&rt, "a job");
     assert!(rt; place.line < 100);

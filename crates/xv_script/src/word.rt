@@ -1,10 +1,9 @@
 //! The words that lines of a script begin with.
 
-ghost use Rattle.std.specs.Prelude.{◌≡◌, find};
-ghost use Rattle.xv_trace.specs.OpText.{is_word};
-ghost use Rattle.xv_script.specs.Words.{spelling, word_of, named, kinds};
+ghost use Rattle.std.specs.Prelude.{◌≡◌};
+ghost use Rattle.xv_script.specs.Words.{word_of, named, kinds};
 
-use xv_text::Kind;
+use xv_text::{Kind, TextWord, first_spelled};
 
 /// The word of a line.
 #[derive(Clone, Copy, Debug, PartialEq, Eq)]
@@ -64,26 +63,15 @@ const WORDS: [Word; 17] = [
 pub(crate) fn word_of(field: &[u8]) -> Option<Word>
     ensures { result ≡ word_of field.now }
 {
-    first_spelled(field, &WORDS)
+    first_spelled(&WORDS, field)
 }
 
-/// The first of these words that is spelled as a field.
-fn first_spelled(field: &[u8], words: &[Word]) -> Option<Word>
-    ensures { result ≡ find (λ word. is_word (spelling word) field.now) words.now }
-{
-    for word in words {
-        if word.spelling() == field {
-            return Some(*word);
-        }
-    }
-    None
-}
+impl TextWord for Word {
+    ghost use Rattle.xv_script.specs.Words.{spelling as spelling_of};
 
-impl Word {
-    /// How the word is spelled.
-    fn spelling(self) -> &'static [u8]
-        ensures { result.now ≡ spelling self }
-    {
+    ghost spelling = { spelling_of };
+
+    fn spelling(self) -> &'static [u8] {
         match self {
             Word::Guest => b"guest",
             Word::Begin => b"begin",
@@ -104,7 +92,9 @@ impl Word {
             Word::Stop => b"stop",
         }
     }
+}
 
+impl Word {
     /// What the number behind the word names.
     pub(crate) fn named(self) -> Named
         ensures { result ≡ named self }

@@ -18,7 +18,10 @@ ghost use Rattle.xv_source.specs.Operations.{acted, released, stored, mirrored, 
 
 use crate::source::SourceHalf;
 use crate::waiting::unless;
-use xv_base::{Failed, GuestId, MOST_GUESTS, MOST_PATTERN, Note, Pattern, Side, Turn, UnitId, UnitOp, Waiting, Why};
+use xv_base::{
+    Failed, GuestId, MOST_GUESTS, MOST_PATTERN, Note, Pattern, Side, Turn, UnitId, UnitOp, Waiting,
+    Why,
+};
 use xv_device::{UnitDevice, operate};
 use xv_filter::place;
 

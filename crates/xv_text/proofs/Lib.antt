@@ -6,3 +6,4 @@ pub mod Rows
 pub mod Apart
 pub mod Spelled
 pub mod Progress
+pub mod Found

@@ -1,13 +1,13 @@
 -- How far the lines of a text have been read: what is left decides as the whole text does.
-use Rattle.std.proofs.Common.{◌≡◌, ◌==◌, ℕ, ◌+◌, ◌-◌, ◌<◌, ◌^◌, Bool, true, false, List, [], ◌∷◌, ◌++◌, length, map, take, Option, Some, None, refl, sym, ap, ◌∙◌, subst, arith, append_assoc, inl, inr}
+use Rattle.std.proofs.Common.{◌≡◌, ◌==◌, ℕ, suc, ◌+◌, ◌-◌, ◌<◌, ◌≤◌, ◌^◌, Bool, true, false, List, [], ◌∷◌, ◌++◌, length, map, take, Option, Some, None, refl, sym, ap, ◌∙◌, subst, arith, append_assoc, inl, inr}
 use Rattle.std.specs.List.{list_any}
 use Rattle.std.proofs.lemmas.Bool.{cases_Bool, eqb-true}
-use Rattle.std.proofs.lemmas.List.{length-append, append-nil, take_at}
+use Rattle.std.proofs.lemmas.List.{length-append, append-nil, take_at, length-map}
 use Rattle.xv_base.specs.declared.text.LineFault.{LineFault}
 use Rattle.xv_base.specs.declared.text.LineWhy.{LineWhy}
 use Rattle.xv_base.specs.declared.text.LineWhy.TheVariants.{Unended, Order}
 use Rattle.xv_text.specs.Lines.{whole_lines, lines_of, has_rest, fields, line, text_of}
-use Rattle.xv_text.specs.Reading.{Reader, first_fault, last_state, line_count, at_line, at_line_or}
+use Rattle.xv_text.specs.Reading.{Reader, first_fault, last_state, line_count, one_more_unless, at_line, at_line_or}
 use Rattle.xv_text.proofs.Cuts.{whole_lines-none}
 use Rattle.xv_text.proofs.Apart.{line-fields, text_of-append, some_line}
 
@@ -140,7 +140,7 @@ stays : {S : Type 0} (r : Reader S) (s : S) (ls : List (List (List ℕ))) → r.
 stays r s [] h = refl
 stays r s (l ∷ ls) h = rw h refl
 
-none_more : {S : Type 0} (r : Reader S) (s : S) (ls : List (List (List ℕ))) → r.is_ended s ≡ true → line_count r s ls ≡ 0
+pub none_more : {S : Type 0} (r : Reader S) (s : S) (ls : List (List (List ℕ))) → r.is_ended s ≡ true → line_count r s ls ≡ 0
 none_more r s [] h = refl
 none_more r s (l ∷ ls) h = rw h refl
 
@@ -170,3 +170,18 @@ finished {S = S} r q ends first first_line text s n rest a same ended done =
 pub nothing_left : (rest : List ℕ) → true ≡ (length rest == 0) → rest ≡ []
 nothing_left [] h = refl
 nothing_left (b ∷ rest) h = absurd (omega (arith, eqb-true (length (b ∷ rest)) 0 (sym h)))
+
+-- no more lines are read than there are
+one_below : (why : Option LineWhy) (n k : ℕ) → n ≤ k → one_more_unless why n ≤ suc k
+one_below None n k h = omega arith
+one_below (Some why) n k h = omega arith
+
+pub count_below : {S : Type 0} (r : Reader S) (s : S) (ls : List (List (List ℕ))) → line_count r s ls ≤ length ls
+count_below r s [] = omega arith
+count_below r s (l ∷ ls) = elim (cases_Bool (r.is_ended s)) [
+  | inl ended ↦ rw ended (omega arith)
+  | inr more ↦ rw more (one_below (r.fault s l) (line_count r (r.next s l) ls) (length ls) (count_below r (r.next s l) ls))
+]
+
+pub count_few : {S : Type 0} (r : Reader S) (s : S) (text : List ℕ) → line_count r s (lines_of text) ≤ length (whole_lines text)
+count_few r s text = omega (arith, count_below r s (lines_of text), length-map (whole_lines text) fields)

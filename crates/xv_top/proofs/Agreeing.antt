@@ -1,20 +1,19 @@
 -- The guests' owner holds what the unmigrated guest leaves, so all units agree.
-use Rattle.std.specs.Prelude.{cond, count_by, unwrap_or, ◌||◌, nat_lt, if◌then◌else◌}
+use Rattle.std.specs.Prelude.{cond, count_by, ◌||◌, nat_lt, if◌then◌else◌}
 use Rattle.std.specs.List.{range_with_len}
 use Rattle.std.specs.Str.{bytes_eq}
 use mir.Val.{bool_byte}
-use Rattle.std.proofs.Common.{◌≡◌, ℕ, zero, suc, ◌+◌, ◌-◌, ◌<◌, ◌≤◌, Bool, true, false, List, [], length, refl, sym, ap, ◌∙◌, subst, arith}
+use Rattle.std.proofs.Common.{◌≡◌, ℕ, zero, suc, ◌+◌, ◌-◌, ◌<◌, ◌≤◌, Bool, true, false, List, length, refl, sym, ap, ◌∙◌, subst, arith}
 use Rattle.std.proofs.lemmas.Slice.Eq.{bytes_eq-Decides}
 use Rattle.std.proofs.lemmas.List.Sums.{sum_by-cons}
 use Rattle.xv_base.specs.Units.{Shape, units}
 use Rattle.xv_base.specs.declared.operation.Ended.{Ended}
-use Rattle.xv_device.specs.Memory.{Device, told}
-use Rattle.xv_device.specs.Told.{Told}
+use Rattle.xv_device.specs.Memory.{Device}
 use Rattle.xv_model.specs.Job.{unit_count}
 use Rattle.xv_model.specs.Guest.{content}
 use Rattle.xv_model.specs.View.{number, is_switched}
 use Rattle.xv_model.specs.Contents.{unit_content}
-use Rattle.xv_model.specs.Report.{source_length, dest_length, is_written}
+use Rattle.xv_model.specs.Report.{dest_length, is_written}
 use Rattle.xv_job.specs.Written.{Written, job_of}
 use Rattle.xv_guest.specs.Plain.{Plain, IsUnmigrated}
 use Rattle.xv_core.specs.Seen.{Seen, view_of}
@@ -64,15 +63,7 @@ all-agree units xs ys same =
     all-pass (agrees xs ys) 0 units
     (λ unit lt. (bytes_eq-Decides (unit_content xs unit) (unit_content ys unit)).1 (same unit (omega arith)))
 
--- the source holds it until the switchover, and the destination from then on
-pub source-guests : (m : Seen) → IsInMemory m → is_switched (view_of m).phase ≡ false → AreTheGuests m (told_contents m.source)
-source-guests m inside stays = record {
-  each = λ unit lt.
-      let v = view_of m in
-      let whole : source_length v ≡ length v.history = ap (λ (b : Bool). if b then unwrap_or v.stun 0 else length v.history) stays in
-      (holds m inside).source unit lt ∙ ap (content (job_of m.job) v.history unit) whole;
-}
-
+-- the destination holds it from the switchover on
 pub dest-guests : (m : Seen) → IsInMemory m → is_switched (view_of m).phase ≡ true → AreTheGuests m (told_contents m.dest)
 dest-guests m inside gone = record {
   each = λ unit lt.
@@ -81,10 +72,6 @@ dest-guests m inside gone = record {
       let whole : dest_length v unit ≡ length v.history = ap (λ (b : Bool). if b then length v.history else number v.hold.recorded unit) gone in
       (holds m inside).dest unit lt there ∙ ap (content (job_of m.job) v.history unit) whole;
 }
-
--- a device that is seen as one of the migration's holds what is told of that one
-pub guests-of : (m : Seen) (d : Device) (t : Told) → told d ≡ t → AreTheGuests m (unwrap_or t.contents []) → AreTheGuests m d.contents
-guests-of m d t is guests = subst (AreTheGuests m) (sym (ap (λ (x : Told). unwrap_or x.contents []) is)) guests
 
 pub unmigrated-as : (w x : Written) (before after : List Ended) (plain : Plain) → w ≡ x → before ≡ after → IsUnmigrated (job_of w) before plain → IsUnmigrated (job_of x) after plain
 unmigrated-as w x before after plain of_job of_history is =

@@ -1,20 +1,16 @@
 -- How far the answers of a handover have been written.
-use Rattle.std.proofs.Common.{◌≡◌, ℕ, ◌+◌, ◌<◌, ◌≤◌, List, [], ◌∷◌, ◌++◌, length, drop, get_or, refl, sym, ap, ◌∙◌, subst, append_assoc, append-nil, add-one, drop-cons, Option}
+use Rattle.std.proofs.Common.{◌≡◌, ℕ, ◌+◌, ◌<◌, List, ◌∷◌, ◌++◌, length, drop, get_or, sym, ap, ◌∙◌, append_assoc, add-one, drop-cons, Option}
 use Rattle.xv_io.specs.Io.{TookMore, TookFront}
-use Rattle.xv_io.proofs.Took.{took-both, took-none, front-then}
+use Rattle.xv_io.proofs.Took.{took-both, front-then}
 use Rattle.xv_handover.specs.Lines.{reply_line, transcript}
 use Rattle.xv_handover.specs.declared.message.Reply.{Reply}
 use Rattle.xv_handover.specs.declared.world.WorldEvent.{WorldEvent}
-use Rattle.xv_top.proofs.Played.{drop_past}
 
 -- the lines of the first n events were taken, and those of the others are still to come
 pub record IsTold (events : List WorldEvent) (replies : List Reply) (n : ℕ) (old now : Option (List ℕ)) : Type 0 where
   pub text : List ℕ
   pub taken : TookMore old now text
   pub to_come : text ++ transcript (drop n events) (drop n replies) ≡ transcript events replies
-
-pub told_none : (events : List WorldEvent) (replies : List Reply) (t : Option (List ℕ)) → IsTold events replies 0 t t
-told_none events replies t = record { text = []; taken = took-none t; to_come = refl }
 
 transcript_at : (events : List WorldEvent) (replies : List Reply) (n : ℕ) (e : WorldEvent) (r : Reply) → n < length events → n < length replies → e ≡ get_or events n e → r ≡ get_or replies n r
     → transcript (drop n events) (drop n replies) ≡ reply_line e r ++ transcript (drop (n + 1) events) (drop (n + 1) replies)
@@ -41,9 +37,3 @@ pub told_front : (events : List WorldEvent) (replies : List Reply) (n : ℕ) (ol
 told_front events replies n old now next e r there told is_e is_r so_far line =
     front-then old now next so_far.text (reply_line e r) (transcript events replies) so_far.taken line (transcript (drop (n + 1) events) (drop (n + 1) replies))
     (sym so_far.to_come ∙ ap (λ (xs : List ℕ). so_far.text ++ xs) (transcript_at events replies n e r there told is_e is_r))
-
--- all lines were taken
-pub told_all : (events : List WorldEvent) (replies : List Reply) (n : ℕ) (old now : Option (List ℕ)) → length events ≤ n → IsTold events replies n old now → TookMore old now (transcript events replies)
-told_all events replies n old now all so_far =
-    let none : transcript (drop n events) (drop n replies) ≡ [] = ap (λ (xs : List WorldEvent). transcript xs (drop n replies)) (drop_past n events all) in
-    subst (λ (text : List ℕ). TookMore old now text) (sym (append-nil so_far.text) ∙ (ap (λ (xs : List ℕ). so_far.text ++ xs) (sym none) ∙ so_far.to_come)) so_far.taken

@@ -4,7 +4,7 @@ use Rattle.std.specs.Prelude.{Result, Ok, Err, OnOk, OnErr}
 use Rattle.std.specs.List.{list_all}
 use Rattle.std.proofs.lemmas.Bool.{and_parts}
 use Rattle.std.proofs.Math.Seq.{drop-append_seam}
-use Rattle.std.proofs.lemmas.List.{take-append-drop, take_more, take_all, nil_from_length, length-drop}
+use Rattle.std.proofs.lemmas.List.{take-append-drop, take_more, take_all}
 use Rattle.xv_io.specs.Io.{TookMore}
 use Rattle.xv_io.proofs.Took.{took-both, took-none}
 use Rattle.xv_model.specs.Wait.{Event}
@@ -17,9 +17,6 @@ use Rattle.xv_core.specs.Seen.{Seen}
 use Rattle.xv_core.specs.Stepped.{IsStep}
 use Rattle.xv_core.specs.Keeping.{IsKept}
 use Rattle.xv_top.specs.Playing.{IsEventPlayed, IsLinePlayed, IsLineWritten, IsLineCut, ArePlayed, IsCutShort}
-
-pub drop_past : {X : Type 0} → (n : ℕ) (xs : List X) → length xs ≤ n → drop n xs ≡ []
-drop_past n xs past = nil_from_length (drop n xs) (omega (arith, length-drop n xs))
 
 -- the bytes read stand behind those read before
 pub reads-grow : (old new : Seen) (e : Event) (a : Turn) (before now : List ℕ) → IsStep old e a new → before ≡ old.reads → now ≡ new.reads → length before ≤ length now

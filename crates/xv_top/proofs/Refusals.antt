@@ -1,9 +1,8 @@
 -- An input is refused as its job, or behind it as its script.
-use Rattle.std.proofs.Common.{◌≡◌, ℕ, ◌+◌, ◌<◌, ◌≤◌, Bool, true, false, List, [], ◌∷◌, ◌++◌, length, length-append, drop, ◌==◌, Option, Some, None, refl, ap, ◌∙◌, arith}
+use Rattle.std.proofs.Common.{◌≡◌, ℕ, ◌+◌, ◌≤◌, Bool, true, false, List, [], ◌∷◌, ◌++◌, length, length-append, drop, ◌==◌, Option, None, refl, ap, ◌∙◌, arith}
 use Rattle.std.specs.Prelude.{nat_lt}
 use Rattle.std.proofs.Math.Seq.{drop-append_seam}
 use Rattle.std.proofs.lemmas.List.{length-map}
-use Rattle.xv_base.specs.declared.text.LineWhy.TheVariants.{Limit}
 use Rattle.xv_base.specs.declared.text.LineFault.{LineFault}
 use Rattle.xv_text.specs.Lines.{lines_of, has_rest, whole_lines, before_first, fields}
 use Rattle.xv_text.specs.Reading.{first_fault}
@@ -16,21 +15,11 @@ use Rattle.xv_script.specs.Script.{first_script, script_reader, counts_of, text_
 use Rattle.xv_top.specs.Refused.{input_limit, input_fault, lines_fault, fault_or, job_said, job_length, script_lines}
 
 -- a test of an order, where it is known
-pub lt-is : (m n : ℕ) → m < n → nat_lt m n ≡ true
-lt-is m n h = grind (arith, nat_lt)
-
 pub lt-is_not : (m n : ℕ) → n ≤ m → nat_lt m n ≡ false
 lt-is_not m n h = grind (arith, nat_lt)
 
-pub long-input : (bytes : List ℕ) → input_limit < length bytes → input_fault bytes ≡ Some (record { line = 0; why = Limit 1 })
-long-input bytes more = rw (lt-is input_limit (length bytes) more) refl
-
 pub short-input : (bytes : List ℕ) → length bytes ≤ input_limit → input_fault bytes ≡ lines_fault (lines_of bytes) (has_rest bytes)
 short-input bytes within = rw (lt-is_not input_limit (length bytes) within) refl
-
--- a fault of the job is the input's
-pub fault-of_job : (bytes : List ℕ) (fault : LineFault) → length bytes ≤ input_limit → job_text_fault bytes ≡ Some fault → input_fault bytes ≡ Some fault
-fault-of_job bytes fault within is = short-input bytes within ∙ rw is refl
 
 -- where the job has none, the fault of what stands behind it is the input's
 pub fault-behind : (bytes behind : List ℕ) (w : Written) → length bytes ≤ input_limit → job_text_fault bytes ≡ None → job_said (lines_of bytes) ≡ w → job_length (lines_of bytes) ≡ length (job_lines w) → lines_of bytes ≡ job_lines w ++ lines_of behind → has_rest bytes ≡ has_rest behind → input_fault bytes ≡ text_fault (counts_of (job_of w)) (length (job_lines w) + 1) behind

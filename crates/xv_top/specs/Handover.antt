@@ -1,6 +1,7 @@
 -- How `handover` refuses what it reads, and what it writes.
 use Rattle.std.specs.Prelude.{◌≡◌, ◌⊎◌, ℕ, nat_lt, List, length, Option, Some, None, IfSome, if◌then◌else◌}
 use Rattle.xv_io.specs.Io.{TookMore, TookFront}
+use Rattle.xv_text.specs.declared.limits.TheConstants.{LIMIT_OF_INPUT}
 use Rattle.xv_base.specs.declared.text.LineWhy.TheVariants.{Limit}
 use Rattle.xv_base.specs.declared.text.LineFault.{LineFault}
 use Rattle.xv_handover.specs.Lines.{script_text, world_text}
@@ -10,7 +11,7 @@ use Rattle.xv_top.specs.Refused.{input_limit, refused_line}
 
 -- an input is refused by its length, or by the first faulty line of its script
 abbrev pub handover_fault : List ℕ → Option LineFault
-handover_fault bytes = if nat_lt input_limit (length bytes) then Some (record { line = 0; why = Limit 1 }) else text_fault bytes
+handover_fault bytes = if nat_lt input_limit (length bytes) then Some (record { line = 0; why = Limit LIMIT_OF_INPUT }) else text_fault bytes
 
 -- these bytes are refused nowhere, and are the text of a script of these events
 pub record IsHandover (bytes : List ℕ) (events : List WorldEvent) : Type 0 where

@@ -6,3 +6,4 @@ pub mod Command
 pub mod Driven
 pub mod Handover
 pub mod Answers
+pub mod Flushed

@@ -1,5 +1,7 @@
 -- How an input is refused: by its length, or by its first faulty line, of the job or behind it of the script.
 use Rattle.std.specs.Prelude.{ℕ, ◌+◌, nat_lt, Bool, true, false, List, [], ◌∷◌, ◌++◌, length, drop, codes, decimal, Option, Some, None, if◌then◌else◌}
+use Rattle.xv_base.specs.declared.limits.TheConstants.{MOST_INPUT}
+use Rattle.xv_text.specs.declared.limits.TheConstants.{LIMIT_OF_INPUT}
 use Rattle.xv_base.specs.declared.text.LineWhy.{LineWhy}
 use Rattle.xv_base.specs.declared.text.LineWhy.TheVariants.{Unended, BadWord, Order, BadNumber, BadHex, Limit, OutOfRange, CrossesPage, TooMany}
 use Rattle.xv_base.specs.declared.text.LineFault.{LineFault}
@@ -11,7 +13,7 @@ use Rattle.xv_script.specs.Script.{first_script, script_reader}
 
 -- how many bytes an input has at most
 abbrev pub input_limit : ℕ
-input_limit = 67108864
+input_limit = MOST_INPUT
 
 -- the job that the lines say, and the lines behind it
 abbrev pub job_said : List (List (List ℕ)) → Written
@@ -34,7 +36,7 @@ lines_fault lines rest =
 
 abbrev pub input_fault : List ℕ → Option LineFault
 input_fault bytes =
-    if nat_lt input_limit (length bytes) then Some (record { line = 0; why = Limit 1 })
+    if nat_lt input_limit (length bytes) then Some (record { line = 0; why = Limit LIMIT_OF_INPUT })
     else lines_fault (lines_of bytes) (has_rest bytes)
 
 -- the line of a refusal

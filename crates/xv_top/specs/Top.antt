@@ -2,6 +2,7 @@
 use Rattle.std.specs.Prelude.{◌≡◌, ◌<◌, ◌⊎◌, ℕ, ◌+◌, ◌-◌, true, List, length, take, Option, Some, None, IfSome, ⊤}
 use Rattle.xv_io.specs.Io.{GaveAtLeast, TookMore, TookFront}
 use Rattle.xv_base.specs.declared.text.LineFault.{LineFault}
+use Rattle.xv_text.specs.declared.limits.TheConstants.{LIMIT_OF_INPUT}
 use Rattle.xv_base.specs.declared.text.LineWhy.TheVariants.{Limit}
 use Rattle.xv_device.specs.Device.{write_count}
 use Rattle.xv_model.specs.Job.{Job, unit_count}
@@ -34,7 +35,7 @@ pub record IsInput (bytes : List ℕ) (written : Written) (lines : List Line) : 
 
 -- more bytes than the limit were read, and that is the fault
 pub record IsTooLong (fault : LineFault) (old new : Option (List ℕ)) : Type 0 where
-  pub is : fault ≡ record { line = 0; why = Limit 1 }
+  pub is : fault ≡ record { line = 0; why = Limit LIMIT_OF_INPUT }
   pub past : GaveAtLeast (input_limit + 1) old new
 
 -- these bytes are refused so

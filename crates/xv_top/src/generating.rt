@@ -1,10 +1,11 @@
 //! The command `gen`: the text of the job that a number makes.
 
-ghost use Rattle.std.specs.Prelude.{◌≡◌, ◌≢◌, IfOk};
+ghost use Rattle.std.specs.Prelude.{◌≡◌, ◌≢◌, false, IfOk};
 ghost use Rattle.xv_base.specs.Calls.{CountRose};
 ghost use Rattle.xv_io.specs.Io.{TookMore, TookFront};
 ghost use Rattle.xv_job.specs.JobText.{job_text};
 ghost use Rattle.xv_job.specs.Made.{made_job};
+ghost use Rattle.xv_top.specs.Flushed.{IsWhole};
 
 use crate::output::write_out;
 use std::alloc::Global;
@@ -17,7 +18,9 @@ use xv_job::{make_job, print_job};
 /// Answers `WriteFault` where the output failed, `NoMemory` for want of memory, where nothing was written.
 pub fn run_gen<O: Sink>(alloc: Global, number: u16, output: &mut O) -> Status
     ensures fine { result ≡ Status.Fine → TookMore (O.taken output.old) (O.taken output.new) (job_text (made_job number)) }
+    ensures flushed { IsWhole result → O.keeps_back output.new ≡ false }
     ensures write_fault { result ≡ Status.WriteFault → CountRose (O.faults output.old) (O.faults output.new) }
+    ensures quiet { result ≢ Status.WriteFault → O.faults output.new ≡ O.faults output.old }
     ensures front { result ≡ Status.WriteFault → TookFront (O.taken output.old) (O.taken output.new) (job_text (made_job number)) }
     ensures no_other { (result ≢ Status.BadWords) × (result ≢ Status.BadInput) × (result ≢ Status.ReadFault) × (result ≢ Status.Failed) × (result ≢ Status.Cancelled) }
 {

@@ -1,10 +1,11 @@
 //! The command `handover`: a script of events, played on two nodes.
 
-ghost use Rattle.std.specs.Prelude.{◌≡◌, ◌≢◌, ◌≤◌, ◌+◌, ◌⊎◌, ◌++◌, Some, All, length, vec_len, IfOk, IfErr, IfSome, OnOk, OnErr, IsErrOf};
+ghost use Rattle.std.specs.Prelude.{◌≡◌, ◌≢◌, ◌≤◌, ◌+◌, ◌⊎◌, ◌++◌, false, Some, All, length, IfOk, IfErr, IfSome, OnOk, OnErr, IsErrOf};
 ghost use Rattle.xv_base.specs.Calls.{CountRose};
 ghost use Rattle.xv_io.specs.Io.{IsAtEnd, GaveAtLeast, TookMore, TookFront};
 ghost use Rattle.xv_handover.specs.declared.message.Reply.TheVariants.{Failed};
 ghost use Rattle.xv_handover.specs.Lines.{transcript, nodes_text, world_text};
+ghost use Rattle.xv_top.specs.Flushed.{IsWhole};
 ghost use Rattle.xv_top.specs.Refused.{input_limit};
 ghost use Rattle.xv_top.specs.Top.{IsReadFault, RefusedSo};
 ghost use Rattle.xv_top.specs.Handover.{handover_fault, IsHandover, IsHandedOver, IsHandoverFront};
@@ -31,7 +32,10 @@ pub fn run_handover<I: Source, O: Sink>(alloc: Global, input: &mut I, output: &m
     ensures bad_input { result ≡ Status.BadInput → IsRefusedBy Handover (I.left input.old) (O.taken output.old) (O.taken output.new) }
     ensures bad_input_reads { result ≡ Status.BadInput → IsAtEnd (I.left input.new) ⊎ GaveAtLeast (input_limit + 1) (I.left input.old) (I.left input.new) }
     ensures read_fault { result ≡ Status.ReadFault → CountRose (I.faults input.old) (I.faults input.new) × (O.taken output.new ≡ O.taken output.old) }
+    ensures flushed { IsWhole result → O.keeps_back output.new ≡ false }
+    ensures quiet_input { result ≢ Status.ReadFault → I.faults input.new ≡ I.faults input.old }
     ensures write_fault { result ≡ Status.WriteFault → CountRose (O.faults output.old) (O.faults output.new) }
+    ensures quiet_output { result ≢ Status.WriteFault → O.faults output.new ≡ O.faults output.old }
     ensures front { result ≡ Status.WriteFault → IsHandoverFront (I.left input.old) (O.taken output.old) (O.taken output.new) }
     ensures no_other { (result ≢ Status.BadWords) × (result ≢ Status.Failed) × (result ≢ Status.Cancelled) }
 {
@@ -55,6 +59,7 @@ fn read_script<I: Source>(alloc: Global, input: &mut I) -> Result<Vec<WorldEvent
     ensures refused { IfErr result (λ error. RefusedSo error (λ fault. IfSome (I.left input.old) (λ bytes. handover_fault bytes ≡ Some fault))) }
     ensures refused_reads { IfErr result (λ error. RefusedSo error (λ fault. IsAtEnd (I.left input.new) ⊎ GaveAtLeast (input_limit + 1) (I.left input.old) (I.left input.new))) }
     ensures fault { IfErr result (λ error. IsReadFault error → CountRose (I.faults input.old) (I.faults input.new)) }
+    ensures quiet { ¬ IsErrOf result InputError.ReadFault → I.faults input.new ≡ I.faults input.old }
 {
     match read_bytes(alloc, input) {
         Ok(text) => parse_script(alloc, &text),
@@ -80,7 +85,9 @@ fn parse_script(alloc: Global, text: &[u8]) -> Result<Vec<WorldEvent>, InputErro
 fn hand_over<O: Sink>(alloc: Global, events: &[WorldEvent], output: &mut O) -> Result<(), PlayError>
     ensures written { OnOk result (TookMore (O.taken output.old) (O.taken output.new) (world_text events.now)) }
     ensures front { OnErr result (TookFront (O.taken output.old) (O.taken output.new) (world_text events.now)) }
+    ensures flushed { OnOk result (O.keeps_back output.new ≡ false) }
     ensures fault { IsErrOf result PlayError.WriteFault → CountRose (O.faults output.old) (O.faults output.new) }
+    ensures quiet { ¬ IsErrOf result PlayError.WriteFault → O.faults output.new ≡ O.faults output.old }
 {
     let mut replies = Vec::new(alloc);
     let world = match play_world(alloc, events, &mut replies) {
@@ -104,7 +111,9 @@ fn write_world<O: Sink>(
     requires told { All (λ reply. reply ≢ Failed) replies.now }
     ensures whole { OnOk result (TookMore (O.taken output.old) (O.taken output.new) (transcript events.now replies.now ++ nodes_text world.now)) }
     ensures front { OnErr result (TookFront (O.taken output.old) (O.taken output.new) (transcript events.now replies.now ++ nodes_text world.now)) }
+    ensures flushed { OnOk result (O.keeps_back output.new ≡ false) }
     ensures fault { OnErr result (CountRose (O.faults output.old) (O.faults output.new)) }
+    ensures quiet { OnOk result (O.faults output.new ≡ O.faults output.old) }
 {
     match write_answers(events, replies, output) {
         Ok(()) => write_out(output, print_world(world).bytes()),
@@ -123,7 +132,7 @@ fn write_answers<O: Sink>(
     ensures whole { OnOk result (TookMore (O.taken output.old) (O.taken output.new) (transcript events.now replies.now)) }
     ensures front { OnErr result (TookFront (O.taken output.old) (O.taken output.new) (transcript events.now replies.now)) }
     ensures fault { OnErr result (CountRose (O.faults output.old) (O.faults output.new)) }
-    ensures counts { O.faults output.old ≤ O.faults output.new }
+    ensures quiet { OnOk result (O.faults output.new ≡ O.faults output.old) }
 {
     for (event, reply) in events.iter().zip(replies) {
         write_text(output, print_reply(*event, *reply).bytes())?;

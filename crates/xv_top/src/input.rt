@@ -1,21 +1,19 @@
 //! The input of the program, read and checked whole.
 
-ghost use Rattle.std.specs.Prelude.{◌≡◌, ◌≤◌, ◌+◌, ◌⊎◌, Some, length, drop, take, IfSome, IfOk, IfErr, OnOk, IsErrOf};
+ghost use Rattle.std.specs.Prelude.{◌≡◌, ◌≤◌, ◌+◌, ◌⊎◌, length, drop, IfSome, IfOk, IfErr, OnOk, IsErrOf};
 ghost use Rattle.xv_base.specs.Calls.{CountRose};
 ghost use Rattle.xv_io.specs.Io.{IsAtEnd, GaveAtLeast};
 ghost use Rattle.xv_job.specs.Written.{job_of};
 ghost use Rattle.xv_script.specs.Script.{IsScriptOf};
-ghost use Rattle.xv_top.specs.Refused.{input_limit, input_fault};
+ghost use Rattle.xv_top.specs.Refused.{input_limit};
 ghost use Rattle.xv_top.specs.Top.{IsInput, IsRefused, IsTooLong, IsReadFault, RefusedSo};
 
 use std::alloc::Global;
-use xv_base::{LineFault, LineWhy, TextError};
+use xv_base::{LineFault, LineWhy, MOST_INPUT, TextError};
 use xv_io::{ReadAll, Source, read_all};
 use xv_job::{Job, read_job};
 use xv_script::{Line, read_events};
-
-/// How many bytes an input has at most.
-const LIMIT: u32 = 67_108_864;
+use xv_text::LIMIT_OF_INPUT;
 
 /// Why there is no job to run.
 #[derive(Clone, Copy)]
@@ -35,6 +33,7 @@ pub fn read_input<I: Source>(alloc: Global, input: &mut I) -> Result<(Job, Vec<L
     ensures refused { IfErr result (λ error. RefusedSo error (λ fault. IfSome (I.left input.old) (λ bytes. IsRefused bytes fault))) }
     ensures refused_reads { IfErr result (λ error. RefusedSo error (λ fault. IsAtEnd (I.left input.new) ⊎ GaveAtLeast (input_limit + 1) (I.left input.old) (I.left input.new))) }
     ensures fault { IfErr result (λ error. IsReadFault error → CountRose (I.faults input.old) (I.faults input.new)) }
+    ensures quiet { ¬ IsErrOf result InputError.ReadFault → I.faults input.new ≡ I.faults input.old }
 {
     match read_bytes(alloc, input) {
         Ok(text) => parse(alloc, &text),
@@ -49,8 +48,9 @@ pub fn read_bytes<I: Source>(alloc: Global, input: &mut I) -> Result<Vec<u8>, In
     ensures ended { OnOk result (IsAtEnd (I.left input.new)) }
     ensures too_long { IfErr result (λ error. RefusedSo error (λ fault. IsTooLong fault (I.left input.old) (I.left input.new))) }
     ensures fault { IfErr result (λ error. IsReadFault error → CountRose (I.faults input.old) (I.faults input.new)) }
+    ensures quiet { ¬ IsErrOf result InputError.ReadFault → I.faults input.new ≡ I.faults input.old }
 {
-    match read_all(alloc, input, LIMIT) {
+    match read_all(alloc, input, MOST_INPUT) {
         Ok(text) => Ok(text),
         Err(ReadAll::TooLong) => Err(InputError::Refused(too_long())),
         Err(ReadAll::ReadFault) => Err(InputError::ReadFault),
@@ -60,11 +60,11 @@ pub fn read_bytes<I: Source>(alloc: Global, input: &mut I) -> Result<Vec<u8>, In
 
 /// The fault of an input of too many bytes.
 fn too_long() -> LineFault
-    ensures { result ≡ record { line = 0; why = LineWhy.Limit 1 } }
+    ensures { result ≡ record { line = 0; why = LineWhy.Limit LIMIT_OF_INPUT } }
 {
     LineFault {
         line: 0,
-        why: LineWhy::Limit(1),
+        why: LineWhy::Limit(LIMIT_OF_INPUT),
     }
 }
 

@@ -1,6 +1,6 @@
 //! The output of the program: the report and the image of a migration, and whole texts.
 
-ghost use Rattle.std.specs.Prelude.{◌≡◌, ◌≤◌, OnOk, OnErr, IsErrOf};
+ghost use Rattle.std.specs.Prelude.{◌≡◌, false, OnOk, OnErr, IsErrOf};
 ghost use Rattle.xv_base.specs.Calls.{CountRose};
 ghost use Rattle.xv_io.specs.Io.{TookMore, TookFront};
 ghost use Rattle.xv_job.specs.Written.{job_of};
@@ -26,15 +26,27 @@ pub fn write_result<O: Sink>(
 ) -> Result<(), JsonFault>
     requires { IsInMemory machine.now }
     ensures whole { OnOk result (TookMore (O.taken output.old) (O.taken output.new) (result_text form (job_of machine.now.job) machine.now.journal)) }
+    ensures flushed { OnOk result (O.keeps_back output.new ≡ false) }
     ensures front { TookFront (O.taken output.old) (O.taken output.new) (result_text form (job_of machine.now.job) machine.now.journal) }
     ensures fault { IsErrOf result JsonFault.WriteFault → CountRose (O.faults output.old) (O.faults output.new) }
+    ensures quiet { ¬ IsErrOf result JsonFault.WriteFault → O.faults output.new ≡ O.faults output.old }
 {
     write_totals(alloc, form, &machine.totals(), output)?;
     let layout = layout_of(machine.job());
     write_image(layout, machine.source(), machine.dest(), output)?;
+    Ok(hand_on(output)?)
+}
+
+/// Hands on all that the output has taken.
+fn hand_on<O: Sink>(output: &mut O) -> Result<(), WriteFault>
+    ensures flushed { OnOk result (O.keeps_back output.new ≡ false) }
+    ensures stays { O.taken output.new ≡ O.taken output.old }
+    ensures fault { OnErr result (CountRose (O.faults output.old) (O.faults output.new)) }
+    ensures quiet { OnOk result (O.faults output.new ≡ O.faults output.old) }
+{
     match output.flush() {
         Ok(()) => Ok(()),
-        Err(_) => Err(JsonFault::WriteFault),
+        Err(_) => Err(WriteFault),
     }
 }
 
@@ -48,7 +60,7 @@ fn write_totals<O: Sink>(
     ensures whole { OnOk result (TookMore (O.taken output.old) (O.taken output.new) (totals_text form totals.now)) }
     ensures front { TookFront (O.taken output.old) (O.taken output.new) (totals_text form totals.now) }
     ensures fault { IsErrOf result JsonFault.WriteFault → CountRose (O.faults output.old) (O.faults output.new) }
-    ensures counts { O.faults output.old ≤ O.faults output.new }
+    ensures quiet { ¬ IsErrOf result JsonFault.WriteFault → O.faults output.new ≡ O.faults output.old }
 {
     match form {
         Form::Rows => Ok(write_report(totals, None, output)?),
@@ -66,12 +78,11 @@ fn layout_of(job: &Job) -> &Layout
 /// Writes a whole text, and hands it on.
 pub fn write_out<O: Sink>(output: &mut O, text: &[u8]) -> Result<(), WriteFault>
     ensures whole { OnOk result (TookMore (O.taken output.old) (O.taken output.new) text.now) }
+    ensures flushed { OnOk result (O.keeps_back output.new ≡ false) }
     ensures front { TookFront (O.taken output.old) (O.taken output.new) text.now }
     ensures fault { OnErr result (CountRose (O.faults output.old) (O.faults output.new)) }
+    ensures quiet { OnOk result (O.faults output.new ≡ O.faults output.old) }
 {
     write_text(output, text)?;
-    match output.flush() {
-        Ok(()) => Ok(()),
-        Err(_) => Err(WriteFault),
-    }
+    hand_on(output)
 }

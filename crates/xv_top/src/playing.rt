@@ -1,6 +1,6 @@
 //! A script that is played: each event is one step, and each line is answered.
 
-ghost use Rattle.std.specs.Prelude.{◌≡◌, ◌<◌, ◌≤◌, ℕ, true, List, OnOk, OnErr};
+ghost use Rattle.std.specs.Prelude.{◌≡◌, ◌<◌, ℕ, true, List, OnOk, OnErr};
 ghost use Rattle.std.specs.List.{list_all};
 ghost use Rattle.xv_base.specs.Calls.{CountRose};
 ghost use Rattle.xv_io.specs.Io.{TookMore};
@@ -49,7 +49,7 @@ pub fn replay_on<S: UnitDevice, T: UnitDevice, W: Wire, O: Sink>(
     ensures tells { TellsOn migration.old migration.new }
     ensures kept { IsKept migration.new }
     ensures fault { OnErr result (CountRose (O.faults sink.old) (O.faults sink.new)) }
-    ensures counts { O.faults sink.old ≤ O.faults sink.new }
+    ensures quiet { OnOk result (O.faults sink.new ≡ O.faults sink.old) }
 {
     // That a migration keeps what it keeps is told with its journal.
     let _ = migration.journal();
@@ -69,7 +69,7 @@ fn play_line<S: UnitDevice, T: UnitDevice, W: Wire, O: Sink>(
     ensures whole { OnOk result (IsLineWritten migration.old line migration.new (O.taken sink.old) (O.taken sink.new)) }
     ensures front { OnErr result (IsLineCut migration.old line migration.new (O.taken sink.old) (O.taken sink.new)) }
     ensures fault { OnErr result (CountRose (O.faults sink.old) (O.faults sink.new)) }
-    ensures counts { O.faults sink.old ≤ O.faults sink.new }
+    ensures quiet { OnOk result (O.faults sink.new ≡ O.faults sink.old) }
 {
     match line {
         Line::Step(event) => play_event(migration, event, sink),
@@ -89,7 +89,7 @@ fn tell_unit<S: UnitDevice, T: UnitDevice, W: Wire, O: Sink>(
     ensures whole { OnOk result (IsLineWritten migration.now (Ask unit) migration.now (O.taken sink.old) (O.taken sink.new)) }
     ensures front { OnErr result (IsLineCut migration.now (Ask unit) migration.now (O.taken sink.old) (O.taken sink.new)) }
     ensures fault { OnErr result (CountRose (O.faults sink.old) (O.faults sink.new)) }
-    ensures counts { O.faults sink.old ≤ O.faults sink.new }
+    ensures quiet { OnOk result (O.faults sink.new ≡ O.faults sink.old) }
 {
     write_text(sink, print_probe(migration.probe(unit)).bytes())
 }
@@ -104,7 +104,7 @@ fn play_event<S: UnitDevice, T: UnitDevice, W: Wire, O: Sink>(
     ensures whole { OnOk result (IsLineWritten migration.old (Step event) migration.new (O.taken sink.old) (O.taken sink.new)) }
     ensures front { OnErr result (IsLineCut migration.old (Step event) migration.new (O.taken sink.old) (O.taken sink.new)) }
     ensures fault { OnErr result (CountRose (O.faults sink.old) (O.faults sink.new)) }
-    ensures counts { O.faults sink.old ≤ O.faults sink.new }
+    ensures quiet { OnOk result (O.faults sink.new ≡ O.faults sink.old) }
 {
     let before = migration.reads().len();
     let turn = migration.step(event);

@@ -1,12 +1,13 @@
 //! The top call of the program.
 
-ghost use Rattle.std.specs.Prelude.{ℕ, ◌≡◌, ◌≢◌, ◌≤◌, ◌+◌, ◌⊎◌, map, IfOk, OnOk, IsErrOf, OnErr, string_bytes};
+ghost use Rattle.std.specs.Prelude.{ℕ, ◌≡◌, ◌≢◌, ◌+◌, ◌⊎◌, false, map, IfOk, OnOk, IsErrOf, OnErr, string_bytes};
 ghost use Rattle.xv_base.specs.Calls.{CountRose};
 ghost use Rattle.xv_io.specs.Io.{IsAtEnd, GaveAtLeast, TookMore, TookFront};
 ghost use Rattle.xv_job.specs.Written.{job_of};
 ghost use Rattle.xv_script.specs.Script.{IsScriptOf};
 ghost use Rattle.xv_parts.specs.Memory.{begun_in_memory};
 ghost use Rattle.xv_top.specs.Replay.{output_text};
+ghost use Rattle.xv_top.specs.Flushed.{IsWhole};
 ghost use Rattle.xv_top.specs.Refused.{input_limit, refused_words};
 ghost use Rattle.xv_top.specs.Top.{IsReplayed, IsFrontFor, HasRun};
 ghost use Rattle.xv_top.specs.Command.{words_of, IsNoCommand};
@@ -70,7 +71,12 @@ pub fn top<I: Source, O: Sink>(
     ensures bad_input { result ≡ Status.BadInput → (command : CommandName) × ((map (λ w. string_bytes w) words.now ≡ words_of command) × IsRefusedBy command (I.left input.old) (O.taken output.old) (O.taken output.new)) }
     ensures bad_input_reads { result ≡ Status.BadInput → IsAtEnd (I.left input.new) ⊎ GaveAtLeast (input_limit + 1) (I.left input.old) (I.left input.new) }
 
-    // ReadFault and WriteFault: only where the count of the input or of the output rose.
+    // At each status that says that a whole text was written it was handed on too: nothing is kept back.
+    ensures flushed { IsWhole result → O.keeps_back output.new ≡ false }
+
+    // ReadFault and WriteFault: exactly where the input or the output failed, as their counts say.
+    ensures quiet_input { result ≢ Status.ReadFault → I.faults input.new ≡ I.faults input.old }
+    ensures quiet_output { result ≢ Status.WriteFault → O.faults output.new ≡ O.faults output.old }
     ensures read_fault { result ≡ Status.ReadFault → CountRose (I.faults input.old) (I.faults input.new) × (O.taken output.new ≡ O.taken output.old) }
     ensures write_fault { result ≡ Status.WriteFault → CountRose (O.faults output.old) (O.faults output.new) }
     ensures front_of_words { result ≡ Status.WriteFault → IsNoCommand (map (λ w. string_bytes w) words.now) → TookFront (O.taken output.old) (O.taken output.new) refused_words }
@@ -108,7 +114,10 @@ fn run_replay<I: Source, O: Sink>(
     ensures bad_input { result ≡ Status.BadInput → IsRefusedBy (Replay form) (I.left input.old) (O.taken output.old) (O.taken output.new) }
     ensures bad_input_reads { result ≡ Status.BadInput → IsAtEnd (I.left input.new) ⊎ GaveAtLeast (input_limit + 1) (I.left input.old) (I.left input.new) }
     ensures read_fault { result ≡ Status.ReadFault → CountRose (I.faults input.old) (I.faults input.new) × (O.taken output.new ≡ O.taken output.old) }
+    ensures flushed { IsWhole result → O.keeps_back output.new ≡ false }
+    ensures quiet_input { result ≢ Status.ReadFault → I.faults input.new ≡ I.faults input.old }
     ensures write_fault { result ≡ Status.WriteFault → CountRose (O.faults output.old) (O.faults output.new) }
+    ensures quiet_output { result ≢ Status.WriteFault → O.faults output.new ≡ O.faults output.old }
     ensures front { result ≡ Status.WriteFault → IsFrontFor form (I.left input.old) (O.taken output.old) (O.taken output.new) }
     ensures left { (result ≡ Status.Fine → ⊥) → left.new ≡ Left.Nothing }
     ensures no_other { (result ≢ Status.BadWords) × (result ≢ Status.Failed) × (result ≢ Status.Cancelled) }
@@ -142,7 +151,9 @@ fn replay<O: Sink>(
     ensures ran { IfOk result (λ m. HasRun job lines.now m) }
     ensures written { OnOk result (TookMore (O.taken output.old) (O.taken output.new) (output_text form (job_of job) lines.now)) }
     ensures front { OnErr result (TookFront (O.taken output.old) (O.taken output.new) (output_text form (job_of job) lines.now)) }
+    ensures flushed { OnOk result (O.keeps_back output.new ≡ false) }
     ensures fault { IsErrOf result PlayError.WriteFault → CountRose (O.faults output.old) (O.faults output.new) }
+    ensures quiet { ¬ IsErrOf result PlayError.WriteFault → O.faults output.new ≡ O.faults output.old }
 {
     let mut machine = match begin(alloc, job) {
         Ok(machine) => machine,
@@ -170,7 +181,9 @@ fn play_script<O: Sink>(
     ensures ran { OnOk result (HasRun machine.old.job lines.now machine.new) }
     ensures written { OnOk result (TookMore (O.taken output.old) (O.taken output.new) (output_text form (job_of machine.old.job) lines.now)) }
     ensures front { OnErr result (TookFront (O.taken output.old) (O.taken output.new) (output_text form (job_of machine.old.job) lines.now)) }
+    ensures flushed { OnOk result (O.keeps_back output.new ≡ false) }
     ensures fault { IsErrOf result PlayError.WriteFault → CountRose (O.faults output.old) (O.faults output.new) }
+    ensures quiet { ¬ IsErrOf result PlayError.WriteFault → O.faults output.new ≡ O.faults output.old }
 {
     // That it keeps what every migration keeps is told with its journal.
     let _ = machine.journal();

@@ -1,8 +1,9 @@
 //! How words and inputs are refused.
 
-ghost use Rattle.std.specs.Prelude.{◌≡◌, ◌⊎◌, ◌≤◌, ◌+◌, ◌++◌, length, codes, decimal};
+ghost use Rattle.std.specs.Prelude.{◌≡◌, ◌≢◌, ◌⊎◌, ◌≤◌, ◌+◌, ◌++◌, false, length, codes, decimal};
 ghost use Rattle.xv_base.specs.Calls.{CountRose};
 ghost use Rattle.xv_io.specs.Io.{TookMore, TookFront};
+ghost use Rattle.xv_top.specs.Flushed.{IsWhole};
 ghost use Rattle.xv_top.specs.Refused.{why_words, refused_line, refused_words};
 
 use crate::output::write_out;
@@ -14,7 +15,9 @@ pub fn refuse_words<O: Sink>(output: &mut O) -> Status
     ensures answers { (result ≡ Status.BadWords) ⊎ (result ≡ Status.WriteFault) }
     ensures written { result ≡ Status.BadWords → TookMore (O.taken output.old) (O.taken output.new) refused_words }
     ensures front { result ≡ Status.WriteFault → TookFront (O.taken output.old) (O.taken output.new) refused_words }
+    ensures flushed { IsWhole result → O.keeps_back output.new ≡ false }
     ensures fault { result ≡ Status.WriteFault → CountRose (O.faults output.old) (O.faults output.new) }
+    ensures quiet { result ≢ Status.WriteFault → O.faults output.new ≡ O.faults output.old }
 {
     match write_out(output, b"refused words\n") {
         Ok(()) => Status::BadWords,
@@ -27,7 +30,9 @@ pub fn refuse_input<O: Sink>(fault: LineFault, output: &mut O) -> Status
     ensures answers { (result ≡ Status.BadInput) ⊎ (result ≡ Status.WriteFault) }
     ensures written { result ≡ Status.BadInput → TookMore (O.taken output.old) (O.taken output.new) (refused_line fault) }
     ensures front { result ≡ Status.WriteFault → TookFront (O.taken output.old) (O.taken output.new) (refused_line fault) }
+    ensures flushed { IsWhole result → O.keeps_back output.new ≡ false }
     ensures fault { result ≡ Status.WriteFault → CountRose (O.faults output.old) (O.faults output.new) }
+    ensures quiet { result ≢ Status.WriteFault → O.faults output.new ≡ O.faults output.old }
 {
     match write_out(output, print_refusal(fault).bytes()) {
         Ok(()) => Status::BadInput,

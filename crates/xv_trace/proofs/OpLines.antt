@@ -14,7 +14,8 @@ use Rattle.xv_trace.specs.declared.op.Verb.{Verb}
 use Rattle.xv_trace.specs.declared.op.Verb.TheVariants.{Store as StoreVerb, Load as LoadVerb, Write as WriteVerb, Fetch as FetchVerb}
 use Rattle.xv_trace.specs.Operations.{op_fault, op_count}
 use Rattle.xv_trace.specs.Laws.{SaysOp, IsReadBack}
-use Rattle.xv_trace.specs.OpText.{is_word, verb_of, kinds_of, op_of, op_fields, verb_fault, verb_fault_or, op_line_fault, op_said, op_of_or_none, CanBeSaid, IsGoodOp}
+use Rattle.xv_trace.specs.OpText.{verb_of, kinds_of, op_of, op_fields, verb_fault, verb_fault_or, op_line_fault, op_said, op_of_or_none, CanBeSaid, IsGoodOp}
+use Rattle.xv_text.specs.Words.{is_spelled}
 
 -- the word of an operation
 abbrev pub verb_word : Verb → List ℕ
@@ -23,17 +24,17 @@ verb_word LoadVerb = codes "ld"
 verb_word WriteVerb = codes "wr"
 verb_word FetchVerb = codes "rd"
 
-pub word_is : (spelling word : List ℕ) → is_word spelling word ≡ true → word ≡ spelling
+pub word_is : (spelling word : List ℕ) → is_spelled spelling word ≡ true → word ≡ spelling
 word_is spelling word h = sym ((bytes_decides spelling word).0 h)
 
 word_of : (word : List ℕ) (verb : Verb) → verb_of word ≡ Some verb → word ≡ verb_word verb
-word_of word verb h = elim (cases_Bool (is_word (codes "st") word)) [
+word_of word verb h = elim (cases_Bool (is_spelled (codes "st") word)) [
   | inl store ↦ let e : Some StoreVerb ≡ Some verb = rw store at h in let v : StoreVerb ≡ verb = cc in word_is (codes "st") word store ∙ ap verb_word v
-  | inr s ↦ elim (cases_Bool (is_word (codes "ld") word)) [
+  | inr s ↦ elim (cases_Bool (is_spelled (codes "ld") word)) [
     | inl load ↦ let e : Some LoadVerb ≡ Some verb = rw (s, load) at h in let v : LoadVerb ≡ verb = cc in word_is (codes "ld") word load ∙ ap verb_word v
-    | inr l ↦ elim (cases_Bool (is_word (codes "wr") word)) [
+    | inr l ↦ elim (cases_Bool (is_spelled (codes "wr") word)) [
       | inl write ↦ let e : Some WriteVerb ≡ Some verb = rw (s, l, write) at h in let v : WriteVerb ≡ verb = cc in word_is (codes "wr") word write ∙ ap verb_word v
-      | inr w ↦ elim (cases_Bool (is_word (codes "rd") word)) [
+      | inr w ↦ elim (cases_Bool (is_spelled (codes "rd") word)) [
         | inl fetch ↦ let e : Some FetchVerb ≡ Some verb = rw (s, l, w, fetch) at h in let v : FetchVerb ≡ verb = cc in word_is (codes "rd") word fetch ∙ ap verb_word v
         | inr f ↦ let e : None ≡ Some verb = rw (s, l, w, f) at h in absurd (cc)
       ]

@@ -1,6 +1,5 @@
 -- The text of operations, and how it is refused.
-use Rattle.std.specs.Prelude.{◌≡◌, ◌≤◌, ◌<◌, ℕ, ◌+◌, ◌-◌, ◌^◌, nat_eq, nat_lt, Bool, List, [], ◌∷◌, length, get_or, codes, decimal, Option, Some, None, map, min, if◌then◌else◌}
-use Rattle.std.specs.Cmp.Lexicographic.{pointwise}
+use Rattle.std.specs.Prelude.{◌≡◌, ◌≤◌, ◌<◌, ℕ, ◌+◌, ◌-◌, ◌^◌, nat_lt, Bool, List, [], ◌∷◌, length, get_or, codes, decimal, Option, Some, None, map, min, if◌then◌else◌}
 use Rattle.std.specs.List.{flat_map}
 use Rattle.xv_base.specs.declared.text.LineWhy.{LineWhy}
 use Rattle.xv_base.specs.declared.text.LineWhy.TheVariants.{BadWord, TooMany, Unended}
@@ -12,6 +11,7 @@ use Rattle.xv_text.specs.declared.row.Kind.{Kind}
 use Rattle.xv_text.specs.declared.row.Kind.TheVariants.{Number, Bytes}
 use Rattle.xv_text.specs.Lines.{text_of, lines_of, has_rest}
 use Rattle.xv_text.specs.Fields.{Values, values, number_at, fields_fault, or_else, fault_if, IsPattern}
+use Rattle.xv_text.specs.Words.{is_spelled}
 use Rattle.xv_text.specs.Reading.{at_line, at_line_or}
 use Rattle.xv_trace.specs.declared.op.Op.{Op}
 use Rattle.xv_trace.specs.Operations.{op_fault, op_count, count_all, no_op}
@@ -19,17 +19,13 @@ use Rattle.xv_trace.specs.declared.op.Op.TheVariants.{Store, Load, Write, Fetch}
 use Rattle.xv_trace.specs.declared.op.Verb.{Verb}
 use Rattle.xv_trace.specs.declared.op.Verb.TheVariants.{Store as StoreVerb, Load as LoadVerb, Write as WriteVerb, Fetch as FetchVerb}
 
--- whether a word is spelled so
-abbrev pub is_word : List ℕ → List ℕ → Bool
-is_word spelling word = pointwise nat_eq spelling word
-
 -- the words of operations
 abbrev pub verb_of : List ℕ → Option Verb
 verb_of word =
-    if is_word (codes "st") word then Some StoreVerb
-    else (if is_word (codes "ld") word then Some LoadVerb
-    else (if is_word (codes "wr") word then Some WriteVerb
-    else (if is_word (codes "rd") word then Some FetchVerb
+    if is_spelled (codes "st") word then Some StoreVerb
+    else (if is_spelled (codes "ld") word then Some LoadVerb
+    else (if is_spelled (codes "wr") word then Some WriteVerb
+    else (if is_spelled (codes "rd") word then Some FetchVerb
     else None)))
 
 -- what follows each word, and the operation that it says

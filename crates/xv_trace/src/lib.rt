@@ -24,6 +24,7 @@ pub use print::{print_ops, push_op};
 pub use read::{read_op, verb_of};
 pub use text::read_ops;
 pub use trace::Trace;
+pub use xv_base::UnitOp;
 
 #[cfg(test)]
 mod tests;

@@ -8,7 +8,7 @@ ghost use Rattle.xv_trace.specs.OpText.{verb_of, kinds_of, op_of, verb_fault, Is
 ghost use Rattle.xv_trace.specs.declared.op.Verb.TheVariants.{Store as StoreVerb, Load as LoadVerb, Write as WriteVerb, Fetch as FetchVerb};
 
 use crate::op::{Op, Verb};
-use xv_base::{Layout, LineWhy, layouts_keep_limits};
+use xv_base::{Layout, LineWhy, MOST_PATTERN, layouts_keep_limits};
 use xv_text::{Fields, Kind, Row, read_fields};
 
 /// The operation of a word; none where the word is no operation's.
@@ -112,7 +112,7 @@ fn load(layout: &Layout, row: &Row) -> Result<Op, LineWhy>
 {
     let addr = row.number(0);
     let len = row.number(1);
-    if len > 64 {
+    if len > MOST_PATTERN {
         return Err(LineWhy::OutOfRange);
     }
     match memory_fault(layout, addr, len) {
@@ -156,7 +156,7 @@ fn fetch(layout: &Layout, row: &Row) -> Result<Op, LineWhy>
     let Some(disk) = disk_of(layout, row.number(0)) else {
         return Err(LineWhy::OutOfRange);
     };
-    if block >= layout.blocks(disk) || len == 0 || len > 64 {
+    if block >= layout.blocks(disk) || len == 0 || len > MOST_PATTERN {
         return Err(LineWhy::OutOfRange);
     }
     if u64::from(offset) + u64::from(len) > u64::from(layout.block_size(disk)) {

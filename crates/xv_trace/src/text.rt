@@ -1,7 +1,6 @@
 //! Texts of operations that are read.
 
 ghost use Rattle.std.specs.Prelude.{◌≡◌, ◌≤◌, [], ◌∷◌, IfOk, IfErr};
-ghost use Rattle.xv_base.specs.declared.text.TextError.TheVariants.{Fault};
 ghost use Rattle.xv_text.specs.Lines.{fields};
 ghost use Rattle.xv_trace.specs.Operations.{op_count};
 ghost use Rattle.xv_trace.specs.OpText.{op_line_fault, op_said, ops_text, text_fault, text_said, IsGoodOp};
@@ -11,11 +10,8 @@ use crate::op::Op;
 use crate::read::{read_op, verb_of};
 use crate::trace::Trace;
 use std::alloc::Global;
-use xv_base::{Layout, LineFault, LineWhy, TextError};
-use xv_text::{first_field, next_line};
-
-/// The most unit operations that a job has.
-const MOST_OPERATIONS: u32 = 1 << 20;
+use xv_base::{Layout, LineWhy, MOST_OPERATIONS, TextError};
+use xv_text::{at_line, first_field, next_line};
 
 /// Reads a text of operations on the units of a layout, its lines numbered on from a first one, where there is room
 /// for so many unit operations, at most 2^20.
@@ -54,13 +50,6 @@ pub fn read_ops(
     } else {
         Err(at_line(number, LineWhy::Unended))
     }
-}
-
-/// A fault at a line.
-fn at_line(line: u32, why: LineWhy) -> TextError
-    ensures { result ≡ Fault (record { line = line; why = why }) }
-{
-    TextError::Fault(LineFault { line, why })
 }
 
 /// Reads the operation of a line, where there is room for so many unit operations.

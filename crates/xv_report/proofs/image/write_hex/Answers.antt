@@ -1,4 +1,4 @@
-use Rattle.std.proofs.Common.{refl, arith}
+use Rattle.std.proofs.Common.{refl, arith, ◌∙◌}
 use Rattle.xv_report.proofs.Took.{hex-took, hex-front}
 use Rattle.xv_report.proofs.image.write_hex.Goals as goal
 
@@ -10,5 +10,5 @@ pub loop-done-preserved : goal.loop-done-preserved
 loop-done-preserved g c = (
   omega arith,
   hex-took _ _ _ c.args.bytes.now c.loop-done.done c.min-next.result _ (omega arith) (omega arith) c.loop-done.invariant.1 refl c.in_ok-write_piece.ensures.whole,
-  omega arith,
+  c.in_ok-write_piece.ensures.quiet ∙ c.loop-done.invariant.2,
 )

@@ -16,7 +16,7 @@ pub loop-unit-preserved : goal.loop-unit-preserved
 loop-unit-preserved g c = (
   range-took (line_of c.args.side.now c.args.device.now.contents) _ _ _ c.loop-unit.unit c.loop-unit.invariant.0
       (took-text _ _ _ _ (ap (λ (bytes : List ℕ). unit_line c.args.side.now c.loop-unit.unit bytes) c.content.ensures.exactly) c.in_ok-write_unit.ensures.whole),
-  omega arith,
+  c.in_ok-write_unit.ensures.quiet ∙ c.loop-unit.invariant.1,
 )
 
 pub returns-clause-front : goal.returns-clause-front

@@ -1,4 +1,4 @@
-use Rattle.std.proofs.Common.{length, List, ℕ, subst, sym, ◌∙◌, arith}
+use Rattle.std.proofs.Common.{length, List, ℕ, subst, sym, ◌∙◌}
 use Rattle.std.proofs.lemmas.List.{length_push}
 use Rattle.std.proofs.lemmas.Slice.Zip.{zip_turn}
 use Rattle.xv_io.specs.Io.{TookMore, TookFront}
@@ -14,7 +14,7 @@ loop-event-preserved g c =
     let more = told_more c.args.events.now c.args.replies.now (length c.loop-event.yielded) _ _ _ c.in-Some.event.now c.in-Some.reply.now turn.0 turn.1 (turn.2 c.in-Some.event.now) (turn.3 c.in-Some.reply.now) c.loop-event.invariant.told line in
     record {
       told = subst (λ (n : ℕ). IsTold c.args.events.now c.args.replies.now n (taken c.args.output.now) (taken c.write_text.new.sink)) (sym (length_push c.loop-event.yielded (c.in-Some.event, c.in-Some.reply))) more;
-      counts = omega (arith, c.loop-event.invariant.counts, c.write_text.ensures.counts);
+      quiet = c.in_ok-write_text.ensures.quiet ∙ c.loop-event.invariant.quiet;
     }
 
 pub returns-in_err-write_text-clause-front : goal.returns-in_err-write_text-clause-front

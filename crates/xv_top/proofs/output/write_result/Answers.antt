@@ -1,5 +1,5 @@
 use Rattle.xv_report.specs.Texts.{image_text}
-use Rattle.xv_report.proofs.Took.{front-first, front-last, front-whole}
+use Rattle.xv_io.proofs.Took.{front-first, front-last, front-whole}
 use Rattle.xv_job.specs.Written.{job_of}
 use Rattle.xv_core.specs.Seen.{view_of}
 use Rattle.xv_parts.specs.Sides.{sources, dests}
@@ -20,25 +20,25 @@ returns-in_err-write_image-clause-front g c =
     c.in_ok-write_totals.ensures.whole c.write_image.ensures.front
     (result-is c.args.form m c.totals.result c.source.result.now c.dest.result.now c.requires c.totals.ensures c.source.ensures.told c.dest.ensures.told)
 
-pub returns-in-Ok-clause-whole : goal.returns-in-Ok-clause-whole
-returns-in-Ok-clause-whole g c =
+pub returns-clause-whole : goal.returns-clause-whole
+returns-clause-whole g c =
     let m = c.args.machine.now in
-    written (g.O.Sink.taken c.args.output.now) (g.O.Sink.taken c.write_totals.new.output) (g.O.Sink.taken c.write_image.new.sink) (g.O.Sink.taken c.flush.new.self) (totals_text c.args.form c.totals.result) (image_text c.source.result.now.contents c.dest.result.now.contents) (result_text c.args.form (job_of m.job) m.journal)
-    c.in_ok-write_totals.ensures.whole c.in_ok-write_image.ensures.whole c.flush.ensures.stays
+    written (g.O.Sink.taken c.args.output.now) (g.O.Sink.taken c.write_totals.new.output) (g.O.Sink.taken c.write_image.new.sink) (g.O.Sink.taken c.hand_on.new.output) (totals_text c.args.form c.totals.result) (image_text c.source.result.now.contents c.dest.result.now.contents) (result_text c.args.form (job_of m.job) m.journal)
+    c.in_ok-write_totals.ensures.whole c.in_ok-write_image.ensures.whole c.hand_on.ensures.stays
     (result-is c.args.form m c.totals.result c.source.result.now c.dest.result.now c.requires c.totals.ensures c.source.ensures.told c.dest.ensures.told)
 
-pub returns-in-Ok-clause-front : goal.returns-in-Ok-clause-front
-returns-in-Ok-clause-front g c =
+pub returns-clause-front : goal.returns-clause-front
+returns-clause-front g c =
     let m = c.args.machine.now in
-    front-whole (g.O.Sink.taken c.args.output.now) (g.O.Sink.taken c.flush.new.self) (result_text c.args.form (job_of m.job) m.journal)
-    (written (g.O.Sink.taken c.args.output.now) (g.O.Sink.taken c.write_totals.new.output) (g.O.Sink.taken c.write_image.new.sink) (g.O.Sink.taken c.flush.new.self) (totals_text c.args.form c.totals.result) (image_text c.source.result.now.contents c.dest.result.now.contents) (result_text c.args.form (job_of m.job) m.journal)
-    c.in_ok-write_totals.ensures.whole c.in_ok-write_image.ensures.whole c.flush.ensures.stays
+    front-whole (g.O.Sink.taken c.args.output.now) (g.O.Sink.taken c.hand_on.new.output) (result_text c.args.form (job_of m.job) m.journal)
+    (written (g.O.Sink.taken c.args.output.now) (g.O.Sink.taken c.write_totals.new.output) (g.O.Sink.taken c.write_image.new.sink) (g.O.Sink.taken c.hand_on.new.output) (totals_text c.args.form c.totals.result) (image_text c.source.result.now.contents c.dest.result.now.contents) (result_text c.args.form (job_of m.job) m.journal)
+    c.in_ok-write_totals.ensures.whole c.in_ok-write_image.ensures.whole c.hand_on.ensures.stays
     (result-is c.args.form m c.totals.result c.source.result.now c.dest.result.now c.requires c.totals.ensures c.source.ensures.told c.dest.ensures.told))
 
-pub returns-in-Err-clause-front : goal.returns-in-Err-clause-front
-returns-in-Err-clause-front g c =
+pub returns-in_err-hand_on-clause-front : goal.returns-in_err-hand_on-clause-front
+returns-in_err-hand_on-clause-front g c =
     let m = c.args.machine.now in
-    front-whole (g.O.Sink.taken c.args.output.now) (g.O.Sink.taken c.flush.new.self) (result_text c.args.form (job_of m.job) m.journal)
-    (written (g.O.Sink.taken c.args.output.now) (g.O.Sink.taken c.write_totals.new.output) (g.O.Sink.taken c.write_image.new.sink) (g.O.Sink.taken c.flush.new.self) (totals_text c.args.form c.totals.result) (image_text c.source.result.now.contents c.dest.result.now.contents) (result_text c.args.form (job_of m.job) m.journal)
-    c.in_ok-write_totals.ensures.whole c.in_ok-write_image.ensures.whole c.flush.ensures.stays
+    front-whole (g.O.Sink.taken c.args.output.now) (g.O.Sink.taken c.hand_on.new.output) (result_text c.args.form (job_of m.job) m.journal)
+    (written (g.O.Sink.taken c.args.output.now) (g.O.Sink.taken c.write_totals.new.output) (g.O.Sink.taken c.write_image.new.sink) (g.O.Sink.taken c.hand_on.new.output) (totals_text c.args.form c.totals.result) (image_text c.source.result.now.contents c.dest.result.now.contents) (result_text c.args.form (job_of m.job) m.journal)
+    c.in_ok-write_totals.ensures.whole c.in_ok-write_image.ensures.whole c.hand_on.ensures.stays
     (result-is c.args.form m c.totals.result c.source.result.now c.dest.result.now c.requires c.totals.ensures c.source.ensures.told c.dest.ensures.told))

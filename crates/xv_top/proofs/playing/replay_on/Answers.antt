@@ -1,4 +1,4 @@
-use Rattle.std.proofs.Common.{arith}
+use Rattle.std.proofs.Common.{refl, ◌∙◌}
 use Rattle.xv_base.specs.declared.event.Event.TheVariants.{Guest}
 use Rattle.xv_script.specs.declared.line.Line.{Line}
 use Rattle.xv_script.specs.declared.line.Line.TheVariants.{Step}
@@ -15,7 +15,7 @@ loop-line-init g c = record {
   later = later_none c.args.migration.now c.journal.ensures.kept;
   playing = playing-begins c.args.migration.now c.args.lines.now (g.O.Sink.taken c.args.sink.now);
   in_job = c.requires.in_job;
-  counts = omega arith;
+  quiet = refl;
 }
 
 pub play_line-requires : goal.play_line-requires
@@ -30,7 +30,7 @@ loop-line-preserved g c =
       later = later_line c.args.migration.now c.loop-line.migration c.play_line.new.migration _ written.0 c.loop-line.invariant.later written.1;
       playing = playing-more c.args.migration.now c.loop-line.migration c.play_line.new.migration c.args.lines.now c.loop-line.line-index no_line (g.O.Sink.taken c.args.sink.now) (g.O.Sink.taken c.loop-line.sink) (g.O.Sink.taken c.play_line.new.sink) c.loop-line-test.true c.loop-line.invariant.playing written;
       in_job = (line-in_job c.args.migration.now.job c.loop-line.migration.job c.args.lines.now c.loop-line.line-index no_line c.loop-line.invariant.later.job c.loop-line-test.true c.loop-line.invariant.in_job).1;
-      counts = omega (arith, c.loop-line.invariant.counts, c.play_line.ensures.counts);
+      quiet = c.in_ok-play_line.ensures.quiet ∙ c.loop-line.invariant.quiet;
     }
 
 pub returns-in_err-play_line-clause-cut : goal.returns-in_err-play_line-clause-cut

@@ -1,4 +1,4 @@
-use Rattle.std.proofs.Common.{◌≡◌, ◌≤◌, true, drop}
+use Rattle.std.proofs.Common.{◌≡◌, true, drop}
 use Rattle.std.specs.List.{list_all}
 use Rattle.xv_job.specs.Written.{job_of}
 use Rattle.xv_script.specs.Script.{is_in}
@@ -11,5 +11,5 @@ invariant-loop-line g l = record {
   later : IsLater l.fn.migration l.migration;
   playing : IsPlaying l.fn.migration l.fn.lines l.line-index l.migration (g.O.Sink.taken l.fn.sink) (g.O.Sink.taken l.sink);
   in_job : list_all (is_in (job_of l.fn.migration.job)) (drop l.line-index l.lines) ≡ true;
-  counts : g.O.Sink.faults l.fn.sink ≤ g.O.Sink.faults l.sink;
+  quiet : g.O.Sink.faults l.sink ≡ g.O.Sink.faults l.fn.sink;
 }

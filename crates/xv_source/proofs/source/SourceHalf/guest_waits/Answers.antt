@@ -1,5 +1,5 @@
 use Rattle.std.specs.Prelude.{◌≡◌, true, Option, None, IfSome}
-use Rattle.std.proofs.Common.{refl, sym, subst, tt}
+use Rattle.std.proofs.Common.{refl, sym, subst}
 use Rattle.xv_base.specs.declared.answer.Why.TheVariants.{Throttled}
 use Rattle.xv_base.specs.declared.event.Event.TheVariants.{Guest}
 use Rattle.xv_model.specs.Wait.{Why}
