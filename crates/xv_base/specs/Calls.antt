@@ -6,9 +6,9 @@ use Rattle.std.specs.List.{list_any}
 abbrev pub next_count : ℕ → ℕ
 next_count n = max n (min (n + 1) (2 ^ 64 - 1))
 
--- a count rose, or stands at its last value
+-- a count rose, or stands at its last value; it never falls
 abbrev pub CountRose : ℕ → ℕ → Type 0
-CountRose old new = min (old + 1) (2 ^ 64 - 1) ≤ new
+CountRose old new = next_count old ≤ new
 
 -- the list has this number
 abbrev pub is_listed : List ℕ → ℕ → Bool

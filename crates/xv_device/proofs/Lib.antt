@@ -3,3 +3,4 @@ pub mod Pieces
 pub mod Filling
 pub mod Sized
 pub mod Made
+pub mod OnPages

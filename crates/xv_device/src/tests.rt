@@ -1,5 +1,5 @@
-ghost use Rattle.std.specs.Prelude.{◌≡◌, ◌<◌, ◌∷◌, [], IfOk};
-ghost use Rattle.xv_base.specs.Units.{units, size};
+ghost use Rattle.std.specs.Prelude.{◌≡◌, ◌<◌, ◌≤◌, ◌∷◌, [], length, IfOk};
+ghost use Rattle.xv_base.specs.Units.{units, size, shape_of};
 ghost use Rattle.xv_device.specs.Device.{FlushAll};
 ghost use Rattle.xv_device.specs.Told.{MayCall, HasRoomToCount};
 ghost use Rattle.xv_device.specs.Memory.{told};
@@ -97,28 +97,41 @@ fn flush_through<D: UnitDevice>(device: &mut D) -> Result<(), Failed>
 fn carries_out_operations(rt: HostRuntime) -> Result<(), Fail> {
     let alloc = rt.alloc();
     let layout = Layout::new(2, 16, &[])?;
-    let cases: [(u32, Option<Pattern>, &[u8; 16], &[u8; 3]); 2] = [
-        (1, Some(Pattern::new(b"ab")), b"cabacdcdcdcdcdcd", b"\0\0\0"),
-        (3, None, b"cdcdcdcdcdcdcdcd", b"dcd"),
-    ];
-    for (offset, write, content, read) in cases {
-        let mut device = one_filled(alloc, &layout)?;
-        let op = UnitOp {
-            unit: UnitId(1),
-            offset,
-            len: 3,
-            write,
-        };
-        let mut unit = [0; 16];
-        let mut into = [0; 3];
-        assert_eq!(rt;
-            operate(&mut device, &layout, &op, &mut unit, &mut into),
-            Ok(())
-        );
-        assert_eq!(rt; device.content(UnitId(1)), content.as_slice());
-        assert_eq!(rt; into.as_slice(), read.as_slice());
-    }
+    let mut into = [0; 3];
+    let mut device = one_filled(alloc, &layout)?;
+    carry_out(&mut device, &layout, 1, Some(Pattern::new(b"ab")), &mut into)?;
+    assert_eq!(rt; device.content(UnitId(1)), b"cabacdcdcdcdcdcd".as_slice());
+    assert_eq!(rt; into.as_slice(), [0; 3].as_slice());
+    let mut device = one_filled(alloc, &layout)?;
+    carry_out(&mut device, &layout, 3, None, &mut into)?;
+    assert_eq!(rt; device.content(UnitId(1)), b"cdcdcdcdcdcdcdcd".as_slice());
+    assert_eq!(rt; into.as_slice(), b"dcd".as_slice());
     Ok(())
+}
+
+/// Carries out an operation on three bytes of unit 1 of any device of two pages.
+#[tactic(auto, using(crate::proofs::OnPages::on_second_page))]
+fn carry_out<D: UnitDevice>(
+    device: &mut D,
+    layout: &Layout,
+    offset: u32,
+    write: Option<Pattern>,
+    into: &mut [u8],
+) -> Result<(), Failed>
+    requires shape { layout.now ≡ shape_of 2 16 [] }
+    requires layout { (D.told device.old).shape ≡ layout.now }
+    requires countable { HasRoomToCount (D.told device.old) }
+    requires within { offset ≤ 13 }
+    requires room { length into.old ≡ 3 }
+    ensures { (D.told device.new).shape ≡ layout.now }
+{
+    let op = UnitOp {
+        unit: UnitId(1),
+        offset,
+        len: 3,
+        write,
+    };
+    operate(device, layout, &op, &mut [0; 16], into)
 }
 
 /// A device whose unit 1 is filled.

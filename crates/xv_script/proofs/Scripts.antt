@@ -9,7 +9,7 @@ use Rattle.xv_base.specs.declared.text.TextError.TheVariants.{Fault, NoMemory}
 use Rattle.xv_base.specs.declared.text.LineWhy.{LineWhy}
 use Rattle.xv_base.specs.declared.text.LineWhy.TheVariants.{BadWord, OutOfRange}
 use Rattle.xv_text.specs.Lines.{has_rest, lines_of, line, text_of}
-use Rattle.xv_text.specs.Fields.{fields_fault, fault_if}
+use Rattle.xv_text.specs.Fields.{fields_fault}
 use Rattle.xv_text.specs.Reading.{first_fault, last_state, at_line_or}
 use Rattle.xv_text.proofs.Rows.{none_of_both, no_fault_if}
 use Rattle.xv_text.proofs.Apart.{ArePlainLines, lines_of-text_of, has_rest-text_of, text_of-lines_of}
