@@ -12,7 +12,9 @@ use crate::word::{NodeName, Word, node_of, word_of};
 use crate::world::WorldEvent;
 use std::alloc::Global;
 use xv_base::{LineWhy, MOST_WORLD_EVENTS, TextError};
-use xv_text::{Fields, Kind, LIMIT_OF_EVENTS, ReadsLines, Stop, first_field, read_fields, read_lines};
+use xv_text::{
+    Fields, Kind, LIMIT_OF_EVENTS, ReadsLines, Stop, first_field, read_fields, read_lines,
+};
 
 /// The events of a handover's script, to its line `stop`, which ends the text.
 /// Errors: the first faulty line, and the first reason why it is refused; want of memory.

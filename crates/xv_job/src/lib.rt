@@ -27,8 +27,8 @@ pub use laws::{jobs_are_read_back, texts_begin_with_one_job, texts_say_jobs};
 pub use made::make_job;
 pub use print::print_job;
 pub use reading::read_job;
-pub use xv_text::Place;
 pub use word::{Call, Word};
+pub use xv_text::Place;
 
 #[cfg(test)]
 mod made_tests;

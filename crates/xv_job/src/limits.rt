@@ -10,11 +10,12 @@ ghost use Rattle.xv_text.specs.Reading.{Stops};
 use crate::held::Held;
 use crate::word::Word;
 use xv_base::{
-    LineWhy, MOST_CREDIT, MOST_DIRTY, MOST_GROUP, MOST_OUTBOX, MOST_REGION, MOST_ROUNDS, MOST_STREAMS,
+    LineWhy, MOST_CREDIT, MOST_DIRTY, MOST_GROUP, MOST_OUTBOX, MOST_REGION, MOST_ROUNDS,
+    MOST_STREAMS,
 };
 use xv_text::{
-    Fields, Kind, LIMIT_OF_CREDIT, LIMIT_OF_DIRTY, LIMIT_OF_GROUP, LIMIT_OF_OUTBOX, LIMIT_OF_REGION,
-    LIMIT_OF_ROUNDS, LIMIT_OF_STREAMS, Stop, read_fields,
+    Fields, Kind, LIMIT_OF_CREDIT, LIMIT_OF_DIRTY, LIMIT_OF_GROUP, LIMIT_OF_OUTBOX,
+    LIMIT_OF_REGION, LIMIT_OF_ROUNDS, LIMIT_OF_STREAMS, Stop, read_fields,
 };
 
 /// What is wrong with a number that is to be from `least` to `most`.

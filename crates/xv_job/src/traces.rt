@@ -85,7 +85,9 @@ impl Held {
             return Err(Stop::Refused(why));
         }
         match self.config.cancel {
-            Some(cancel) if cancel > self.operations => Err(Stop::Refused(LineWhy::Limit(LIMIT_OF_CANCEL))),
+            Some(cancel) if cancel > self.operations => Err(Stop::Refused(LineWhy::Limit(
+                LIMIT_OF_CANCEL,
+            ))),
             Some(_) => Ok(()),
             None => Ok(()),
         }

@@ -12,6 +12,7 @@ use xv_trace::{Verb, verb_of};
 const GROUP_RANK: u8 = 10;
 
 pub(crate) const GUEST_RANK: u8 = 14;
+
 pub(crate) const END_RANK: u8 = 15;
 
 /// The word of a line.
@@ -200,7 +201,13 @@ fn needed(format: u8, last: u8) -> u8
         0..=1 => last + 1,
         2..=3 => 4,
         4..=8 => last + 1,
-        9 => { if format == GROUP_FORMAT { GROUP_RANK } else { GUEST_RANK } }
+        9 => {
+            if format == GROUP_FORMAT {
+                GROUP_RANK
+            } else {
+                GUEST_RANK
+            }
+        }
         10..=13 => GUEST_RANK,
         _ => END_RANK,
     }
