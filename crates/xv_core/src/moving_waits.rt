@@ -21,7 +21,8 @@ impl<S: UnitDevice, T: UnitDevice, W: Wire> Migration<S, T, W> {
         if !is_live(self.phase) {
             return Some(Why::NotNow);
         }
-        self.source.waits(Event::Send(stream), self.job.format == GROUP_FORMAT)
+        self.source
+            .waits(Event::Send(stream), self.job.format == GROUP_FORMAT)
     }
 
     /// What a delivery from a stream would wait for now.

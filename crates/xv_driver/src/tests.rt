@@ -241,10 +241,12 @@ fn answers_the_same(alloc: Global, run: &Run) -> Result<bool, Fail> {
     } else {
         silent.source()
     };
-    Ok(silent.journal() == told.journal()
-        && silent.reads() == told.reads()
-        && silent.totals() == told.totals()
-        && are_filled(&owner.device, run.units))
+    Ok(
+        silent.journal() == told.journal()
+            && silent.reads() == told.reads()
+            && silent.totals() == told.totals()
+            && are_filled(&owner.device, run.units),
+    )
 }
 
 /// Whether a run over devices whose calls fail at random ends, and tells each call that failed.
