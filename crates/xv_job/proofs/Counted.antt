@@ -16,9 +16,6 @@ use Rattle.xv_job.proofs.Backward.{trace_is}
 abbrev pub count_first : ℕ → List Program → ℕ
 count_first n ts = sum_by (λ t. count_all t.ops) (take n ts)
 
-pub count_none : (ts : List Program) → count_first 0 ts ≡ 0
-count_none ts = refl
-
 pub count_more : (ts : List Program) (n : ℕ) (d : Program) → n < length ts → count_first (n + 1) ts ≡ count_first n ts + count_all (get_or ts n d).ops
 count_more [] n d h = absurd (omega arith)
 count_more (t ∷ ts) zero d h = omega (arith, sum_by-cons (λ (t : Program). count_all t.ops) t [])

@@ -85,10 +85,6 @@ page_legal s addr len write h short =
       short_read = short;
     }
 
--- blocks
-no_page_test : (a b : ℕ) → b ≤ a → nat_lt a b ≡ false
-no_page_test a b h = grind (arith, nat_tests)
-
 whole_legal : (s : Shape) (disk block : ℕ) (pat : List ℕ) → IsGood s → NumbersBlocks s → disk < length s.disks → block < blocks s.disks disk → IsLegal s (part_of (unit_of_block s disk block) 0 (block_size s.disks disk) (Some pat))
 whole_legal s disk block pat g n d b =
     let is = n.size_of_disk disk block d b in

@@ -26,19 +26,11 @@ pub all_of : {X : Type 0} (P : X → Type 0) (xs : List X) (d : X) → ((i : ℕ
 all_of P [] d h = tt
 all_of P (x ∷ xs) d h = (h 0 (omega arith), all_of P xs d (λ i lt. h (suc i) (omega arith)))
 
-pub all_front : {X : Type 0} (P : X → Type 0) (xs ys : List X) → AllByRecursion P (xs ++ ys) → AllByRecursion P xs × AllByRecursion P ys
-all_front P [] ys h = (tt, h)
-all_front P (x ∷ xs) ys h = let k = all_front P xs ys h.1 in ((h.0, k.0), k.1)
-
 pub tests_push : {X : Type 0} (p : X → Bool) (xs : List X) (x : X) → list_all p xs ≡ true → p x ≡ true → list_all p (xs ++ x ∷ []) ≡ true
 tests_push p [] x h here = rw here refl
 tests_push p (y ∷ xs) x h here =
     let a = and_parts (p y) (list_all p xs) h in
     rw (a.0, tests_push p xs x a.1 here) refl
-
-pub tests_next : {X : Type 0} (p : X → Bool) (xs : List X) (x : X) (more : List X) → list_all p (xs ++ x ∷ more) ≡ true → p x ≡ true
-tests_next p [] x more h = (and_parts (p x) (list_all p more) h).0
-tests_next p (y ∷ xs) x more h = tests_next p xs x more (and_parts (p y) (list_all p (xs ++ x ∷ more)) h).1
 
 -- units that rise
 abbrev pub Rises : List Init → Type 0

@@ -14,14 +14,6 @@ use Rattle.xv_trace.specs.OpText.{Program}
 use Rattle.xv_job.specs.Written.{Written, ops_held}
 use Rattle.xv_job.specs.JobText.{disk_fields, fault_fields, init_fields, guest_lines, machine_lines, limit_lines, group_lines, cancel_lines, machine_of, group_line, job_text}
 
--- one more item, of some lines
-pub more_written : {X : Type 0} (f : X → List (List (List ℕ))) (xs : List X) (i : ℕ) (d : X) (out start : List ℕ) → i < length xs → out ≡ start ++ text_of (flat_map f (take i xs)) → out ++ text_of (f (get_or xs i d)) ≡ start ++ text_of (flat_map f (take (i + 1) xs))
-more_written f xs i d out start h e =
-    let items : flat_map f (take (i + 1) xs) ≡ flat_map f (take i xs) ++ (f (get_or xs i d) ++ []) = ap (flat_map f) (take_more xs i d h) ∙ flat_map-append f (take i xs) (get_or xs i d ∷ []) in
-    let text : text_of (flat_map f (take (i + 1) xs)) ≡ text_of (flat_map f (take i xs)) ++ text_of (f (get_or xs i d)) =
-    ap text_of items ∙ flat_map-append line (flat_map f (take i xs)) (f (get_or xs i d) ++ []) ∙ ap (λ (ls : List (List (List ℕ))). text_of (flat_map f (take i xs)) ++ text_of ls) (append-nil (f (get_or xs i d))) in
-    ap (λ (t : List ℕ). t ++ text_of (f (get_or xs i d))) e ∙ append_assoc start (text_of (flat_map f (take i xs))) (text_of (f (get_or xs i d))) ∙ ap (λ (t : List ℕ). start ++ t) (sym text)
-
 -- one more item, of one line
 pub line_written : {X : Type 0} (f : X → List (List ℕ)) (xs : List X) (i : ℕ) (d : X) (out start : List ℕ) → i < length xs → out ≡ start ++ text_of (map f (take i xs)) → out ++ line (f (get_or xs i d)) ≡ start ++ text_of (map f (take (i + 1) xs))
 line_written f xs i d out start h e =

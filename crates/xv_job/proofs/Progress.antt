@@ -1,8 +1,7 @@
 -- A job is read by the loop over the lines of a text: few of them are read, and what they say is the job of the text.
-use Rattle.std.proofs.Common.{◌≡◌, ℕ, false, ◌+◌, ◌<◌, ◌≤◌, ◌^◌, ◌++◌, List, [], ◌∷◌, length, take, Option, Some, None, Result, Ok, Err, sym, ap, ◌∙◌, subst, arith, inl, inr, refl}
+use Rattle.std.proofs.Common.{◌≡◌, ℕ, false, ◌+◌, ◌≤◌, ◌^◌, ◌++◌, List, [], ◌∷◌, length, take, Option, Some, None, Err, sym, ap, ◌∙◌, subst, arith, inl, inr, refl}
 use Rattle.std.proofs.lemmas.Bool.{cases_Bool}
 use Rattle.std.proofs.lemmas.List.{length-append, length-take-le}
-use Rattle.xv_base.specs.declared.text.LineFault.{LineFault}
 use Rattle.xv_base.specs.declared.text.LineWhy.{LineWhy}
 use Rattle.xv_base.specs.declared.text.TextError.{TextError}
 use Rattle.xv_base.specs.declared.text.TextError.TheVariants.{Fault, NoMemory}
@@ -16,7 +15,7 @@ use Rattle.xv_job.specs.Written.{Written, IsGoodWritten}
 use Rattle.xv_job.proofs.Backward.{Reached, in_head, step_line, sound}
 use Rattle.xv_job.proofs.Head.{at_start}
 use Rattle.xv_job.proofs.Few.{lines_few}
-use Rattle.xv_job.proofs.Texts.{job_is_said, not_refused}
+use Rattle.xv_job.proofs.Texts.{not_refused}
 
 -- few lines are read
 few_by : (d : Draft) (l : List (List ℕ)) (ls before : List (List (List ℕ))) (why : Option LineWhy) → line_fault d l ≡ why → is_complete d ≡ false → Reached d before → length before ≤ 2 ^ 22

@@ -37,9 +37,6 @@ lead_further (m ∷ lines) d e l h more fine = (h.0, h.1, lead_further lines (ne
 pub reach_next : (d : Draft) (l : List (List ℕ)) → IsReached d → is_complete d ≡ false → line_fault d l ≡ None → IsReached (next_draft d l)
 reach_next d l h more fine = (h.0 ++ l ∷ [], lead_further h.0 first_draft d l h.1 more fine)
 
-pub reach_first : IsReached first_draft
-reach_first = ([], refl)
-
 -- where the pages may come
 pub record HasNoDisks (d : Draft) : Type 0 where
   pub disks : d.job.shape.disks ≡ []

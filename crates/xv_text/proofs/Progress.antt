@@ -1,11 +1,11 @@
 -- How far the lines of a text have been read: what is left decides as the whole text does.
-use Rattle.std.proofs.Common.{◌≡◌, ◌==◌, ℕ, suc, ◌+◌, ◌-◌, ◌<◌, ◌≤◌, ◌^◌, Bool, true, false, List, [], ◌∷◌, ◌++◌, length, map, take, Option, Some, None, refl, sym, ap, ◌∙◌, subst, arith, append_assoc, inl, inr}
+use Rattle.std.proofs.Common.{◌≡◌, ◌==◌, ℕ, suc, ◌+◌, ◌-◌, ◌<◌, ◌≤◌, Bool, true, false, List, [], ◌∷◌, ◌++◌, length, map, take, Option, Some, None, refl, sym, ap, ◌∙◌, subst, arith, append_assoc, inl, inr}
 use Rattle.std.specs.List.{list_any}
 use Rattle.std.proofs.lemmas.Bool.{cases_Bool, eqb-true}
 use Rattle.std.proofs.lemmas.List.{length-append, append-nil, take_at, length-map}
 use Rattle.xv_base.specs.declared.text.LineFault.{LineFault}
 use Rattle.xv_base.specs.declared.text.LineWhy.{LineWhy}
-use Rattle.xv_base.specs.declared.text.LineWhy.TheVariants.{Unended, Order}
+use Rattle.xv_base.specs.declared.text.LineWhy.TheVariants.{Order}
 use Rattle.xv_text.specs.Lines.{whole_lines, lines_of, has_rest, fields, line, text_of}
 use Rattle.xv_text.specs.Reading.{Reader, first_fault, last_state, line_count, one_more_unless, at_line, at_line_or}
 use Rattle.xv_text.proofs.Cuts.{whole_lines-none}
@@ -24,9 +24,6 @@ pub record IsAt {S : Type 0} (r : Reader S) (first : S) (first_line : ℕ) (text
   pub fault : (ends : Bool) → fault_from r ends first first_line text ≡ fault_from r ends s n rest
   pub last : last_state r first (lines_of text) ≡ last_state r s (lines_of rest)
   pub count : line_count r first (lines_of text) ≡ length before + line_count r s (lines_of rest)
-
-pub at_front : {S : Type 0} (r : Reader S) (s : S) (n : ℕ) (text : List ℕ) → IsAt r s n text s n text
-at_front r s n text = record { before = []; lines = refl; front = refl; number = omega arith; fault = λ ends. refl; last = refl; count = omega arith }
 
 -- a line in front of the rest
 pub record IsFront (here behind rest : List ℕ) : Type 0 where
@@ -79,25 +76,6 @@ at_next {S = S} r q first first_line text s new n here behind rest a same more f
     let P : Reader S → Type 0 = λ x. x.is_ended s ≡ false → x.fault s (fields here) ≡ None → new ≡ x.next s (fields here) → IsAt r first first_line text new (n + 1) behind in
     let Q : S → Type 0 = λ x. IsAt r first first_line text x (n + 1) behind in
     subst P (sym same) (λ more' fine' e'. subst Q (sym e') (at_next_line r first first_line text s n here behind rest a more' f fine')) more fine e
-
--- the number of a line is below that of the last one
-pub number_fits : {S : Type 0} (r : Reader S) (first : S) (first_line : ℕ) (text : List ℕ) (s : S) (n : ℕ) (rest : List ℕ) → IsAt r first first_line text s n rest
-    → first_line + line_count r first (lines_of text) < 2 ^ 32 → n < 2 ^ 32
-number_fits r first first_line text s n rest a few = omega (arith, a.number, a.count)
-
--- how a text is refused
-pub refused_at : {S : Type 0} (r q : Reader S) (ends : Bool) (first : S) (first_line : ℕ) (text : List ℕ) (s : S) (n : ℕ) (here behind rest : List ℕ) (why : LineWhy) → IsAt r first first_line text s n rest
-    → q ≡ r → q.is_ended s ≡ false → IsFront here behind rest → q.fault s (fields here) ≡ Some why → fault_from r ends first first_line text ≡ Some (at_line n why)
-refused_at {S = S} r q ends first first_line text s n here behind rest why a same more f e =
-    let P : Reader S → Type 0 = λ x. x.is_ended s ≡ false → x.fault s (fields here) ≡ Some why → fault_from r ends first first_line text ≡ Some (at_line n why) in
-    subst P (sym same) (λ more' e'. a.fault ends ∙ fault_next r ends s n here behind rest (Some why) more' f e') more e
-
-pub unended_at : {S : Type 0} (r q : Reader S) (ends : Bool) (first : S) (first_line : ℕ) (text : List ℕ) (s : S) (n : ℕ) (rest : List ℕ) → IsAt r first first_line text s n rest
-    → q ≡ r → q.is_ended s ≡ false → whole_lines rest ≡ [] → fault_from r ends first first_line text ≡ Some (at_line n Unended)
-unended_at {S = S} r q ends first first_line text s n rest a same more none =
-    let P : List (List (List ℕ)) → Type 0 = λ ls. first_fault r ends s n ls (has_rest rest) ≡ Some (at_line n Unended) in
-    let Q : Reader S → Type 0 = λ x. x.is_ended s ≡ false → fault_from r ends first first_line text ≡ Some (at_line n Unended) in
-    subst Q (sym same) (λ more'. a.fault ends ∙ subst P (sym (ap (map fields) none)) (rw more' refl)) more
 
 order_by : {S : Type 0} (r : Reader S) (s : S) (n : ℕ) (ls : List (List ℕ)) (rest : Bool) → r.is_ended s ≡ true → 0 < length ls → first_fault r true s n (map fields ls) rest ≡ Some (at_line n Order)
 order_by r s n [] rest ended h = absurd (omega arith)

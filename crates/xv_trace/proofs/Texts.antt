@@ -1,15 +1,13 @@
 -- Texts of operations, line after line.
-use Rattle.std.proofs.Common.{◌≡◌, ℕ, ◌+◌, ◌-◌, ◌^◌, ◌≤◌, min, Bool, true, false, List, [], ◌∷◌, ◌++◌, length, map, Some, None, refl, sym, ap, ◌∙◌, arith, append_assoc}
+use Rattle.std.proofs.Common.{◌≡◌, ℕ, ◌+◌, ◌-◌, ◌≤◌, Bool, List, [], ◌∷◌, ◌++◌, length, map, None, sym, ap, ◌∙◌, arith, append_assoc}
 use Rattle.std.proofs.lemmas.List.{append-nil, length-append, map-append}
-use Rattle.xv_base.specs.declared.text.LineWhy.{LineWhy}
-use Rattle.xv_base.specs.declared.text.LineWhy.TheVariants.{Unended}
 use Rattle.xv_base.specs.Units.{Shape}
 use Rattle.xv_text.specs.Lines.{fields, line, text_of, whole_lines, lines_of, has_rest}
-use Rattle.xv_text.specs.Reading.{at_line, at_line_or}
+use Rattle.xv_text.specs.Reading.{at_line_or}
 use Rattle.xv_text.proofs.Apart.{line-fields, text_of-append}
 use Rattle.xv_trace.specs.declared.op.Op.{Op}
 use Rattle.xv_trace.specs.Operations.{op_count, count_all}
-use Rattle.xv_trace.specs.OpText.{op_fields, op_line_fault, op_said, ops_said, ops_fault, ops_text, capped, text_fault, text_said}
+use Rattle.xv_trace.specs.OpText.{op_fields, op_line_fault, op_said, ops_said, ops_fault, ops_text, text_said}
 use Rattle.xv_trace.proofs.Counts.{count_all-one, count_all-push}
 
 -- a text is read up to its rest: its operations so far, and what is still to be found out
@@ -18,14 +16,6 @@ pub record IsReadTo (shape : Shape) (room first : ℕ) (lines : List ℕ) (ops :
   pub said : text_said lines ≡ ops ++ text_said rest
   pub fault : ops_fault shape room first (lines_of lines) (has_rest lines) ≡ ops_fault shape (room - count_all ops) (first + length ops) (lines_of rest) (has_rest rest)
   pub fits : count_all ops ≤ room
-
-pub read_none : (shape : Shape) (room first : ℕ) (lines : List ℕ) → IsReadTo shape room first lines [] lines
-read_none shape room first lines = record {
-  text = refl;
-  said = refl;
-  fault = let a : room - 0 ≡ room = omega arith in let b : first + 0 ≡ first = omega arith in rw (a, b) refl;
-  fits = omega arith;
-}
 
 ops_text-push : (ops : List Op) (op : Op) → ops_text (ops ++ op ∷ []) ≡ ops_text ops ++ line (op_fields op)
 ops_text-push ops op =
@@ -64,41 +54,3 @@ read_next shape room first lines ops rest here after op r cut first_line more h 
           ∙ ap (λ n. ops_fault shape (room - count_all (ops ++ op ∷ [])) n (lines_of after) (has_rest after)) number;
       fits = omega (arith, count_all-push ops op, r.fits);
     }
-
--- the fault of a text, where the next line has one
-pub fault_here : (shape : Shape) (room first number : ℕ) (lines : List ℕ) (ops : List Op) (rest here after : List ℕ) (why : LineWhy) → IsReadTo shape (min room (2 ^ 20)) first lines ops rest
-    → whole_lines rest ≡ here ∷ whole_lines after → op_line_fault shape (min room (2 ^ 20) - count_all ops) (fields here) ≡ Some why → number ≡ min (first + length ops) (2 ^ 32 - 1)
-    → text_fault shape room first lines ≡ Some (at_line number why)
-fault_here shape room first number lines ops rest here after why r first_line h n =
-    let limit = min room (2 ^ 20) in
-    ap capped (r.fault
-    ∙ ap (λ ls. ops_fault shape (limit - count_all ops) (first + length ops) (map fields ls) (has_rest rest)) first_line
-    ∙ ap (λ f. at_line_or (first + length ops) f (ops_fault shape (limit - count_all ops - count_all (op_said (fields here))) (first + length ops + 1) (lines_of after) (has_rest rest))) h)
-    ∙ ap (λ k. Some (at_line k why)) (sym n)
-
--- and where no line is left
-pub fault_at_end : (shape : Shape) (room first number : ℕ) (lines : List ℕ) (ops : List Op) (rest : List ℕ) → IsReadTo shape (min room (2 ^ 20)) first lines ops rest
-    → whole_lines rest ≡ [] → has_rest rest ≡ true → number ≡ min (first + length ops) (2 ^ 32 - 1) → text_fault shape room first lines ≡ Some (at_line number Unended)
-fault_at_end shape room first number lines ops rest r none more n =
-    let limit = min room (2 ^ 20) in
-    ap capped (r.fault
-    ∙ ap (λ ls. ops_fault shape (limit - count_all ops) (first + length ops) (map fields ls) (has_rest rest)) none
-    ∙ ap (ops_fault shape (limit - count_all ops) (first + length ops) []) more)
-    ∙ ap (λ k. Some (at_line k Unended)) (sym n)
-
-pub no_fault_at_end : (shape : Shape) (room first : ℕ) (lines : List ℕ) (ops : List Op) (rest : List ℕ) → IsReadTo shape (min room (2 ^ 20)) first lines ops rest
-    → whole_lines rest ≡ [] → has_rest rest ≡ false → text_fault shape room first lines ≡ None
-no_fault_at_end shape room first lines ops rest r none more =
-    let limit = min room (2 ^ 20) in
-    ap capped (r.fault
-    ∙ ap (λ ls. ops_fault shape (limit - count_all ops) (first + length ops) (map fields ls) (has_rest rest)) none
-    ∙ ap (ops_fault shape (limit - count_all ops) (first + length ops) []) more)
-
--- what a text says that is read to its end
-pub said_at_end : (shape : Shape) (room first : ℕ) (lines : List ℕ) (ops : List Op) (rest : List ℕ) → IsReadTo shape room first lines ops rest
-    → whole_lines rest ≡ [] → text_said lines ≡ ops
-said_at_end shape room first lines ops rest r none = r.said ∙ ap (λ ls. ops ++ ops_said (map fields ls)) none ∙ append-nil ops
-
-pub text_at_end : (shape : Shape) (room first : ℕ) (lines : List ℕ) (ops : List Op) (rest : List ℕ) → IsReadTo shape room first lines ops rest
-    → rest ≡ [] → lines ≡ ops_text ops
-text_at_end shape room first lines ops rest r none = r.text ∙ ap (λ xs. ops_text ops ++ xs) none ∙ append-nil (ops_text ops)

@@ -1,4 +1,4 @@
-use Rattle.std.proofs.Common.{◌≡◌, ◌+◌, ◌∙◌, ap, sym, length, arith}
+use Rattle.std.proofs.Common.{◌+◌, ◌∙◌, ap, sym, length, arith}
 use Rattle.xv_job.specs.Held.{draft_held}
 use Rattle.xv_job.specs.JobText.{job_text, job_lines}
 use Rattle.xv_job.specs.Written.{Written}
