@@ -10,8 +10,6 @@ mod finishing;
 mod laws;
 mod order;
 #[cfg(test)]
-mod silent;
-#[cfg(test)]
 mod tests;
 
 pub use finding::next;

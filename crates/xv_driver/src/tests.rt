@@ -4,21 +4,17 @@ ghost use Rattle.xv_device.specs.Memory.{fresh, told as told_device, no_init};
 ghost use Rattle.xv_wire.specs.Memory.{told as told_wire};
 ghost use Rattle.xv_job.specs.Written.{job_of};
 ghost use Rattle.xv_core.specs.Beginning.{IsDeviceFor, IsWireFor, stream_room, back_room};
-ghost use Rattle.xv_driver.specs.Silent.{quiet};
 
-use crate::silent::Silent;
 use crate::{finish, next};
 use std::alloc::Global;
 use std::test::Fail;
-use xv_base::{Cause, Entry, Event, Init, NoMemory, Phase, Turn, UnitId};
+use xv_base::{Event, Init, NoMemory, Phase, UnitId};
 use xv_core::Migration;
 use xv_device::{DevicePlan, MemDevice};
 use xv_job::{Job, read_job};
 use xv_wire::{MemWire, WirePlan};
 
 type Machine = Migration<MemDevice, MemDevice, MemWire>;
-
-type SilentMachine = Migration<Silent, Silent, MemWire>;
 
 /// The greatest credit and the greatest unit that these tests have wires for.
 const CREDIT: u32 = 4;
@@ -143,56 +139,6 @@ fn begun(alloc: Global, text: &[u8], fails: &[u32]) -> Result<Machine, Fail> {
     }
 }
 
-/// A device that tells nothing over the job's units, which begin so; of 256 calls so many fail, by a generator that begins
-/// with this number.
-fn silent(alloc: Global, job: &Job, init: &[Init], rate: u32, seed: u32) -> Result<Silent, Fail>
-    requires { (i : ℕ) → i < length init.now → (get_or init.now i no_init).unit.0 < units job.now.shape }
-    ensures { IfOk result (λ silent. IsDeviceFor (job_of job.now) (quiet silent.device)) }
-{
-    let device = device(alloc, job, init, plan(alloc, &[])?)?;
-    Ok(Silent {
-        device,
-        rate,
-        state: seed,
-        faults: 0,
-    })
-}
-
-/// A migration of the job that a text says, over devices that tell nothing.
-fn begun_silent(alloc: Global, text: &[u8], rate: u32, seed: u32) -> Result<SilentMachine, Fail> {
-    let Ok((job, _place)) = read_job(alloc, text) else {
-        return Err(Fail::new("no job"));
-    };
-    let _ = job.operations();
-    let source = silent(alloc, &job, &job.init, rate, seed)?;
-    let dest = silent(alloc, &job, &[], rate, seed + 1)?;
-    let wires = wires(alloc, &job)?;
-    let back = wire(alloc, &job)?;
-    match Migration::start(alloc, job, source, dest, wires, back) {
-        Ok(machine) => Ok(machine),
-        Err(_parts) => Err(Fail::from(NoMemory)),
-    }
-}
-
-/// Whether an answer tells that a call of a device failed.
-fn is_fault(turn: Turn) -> bool {
-    matches!(
-        turn,
-        Turn::Faulted | Turn::Failed(Cause::SourceRead | Cause::DestWrite | Cause::Flush)
-    )
-}
-
-/// How many of these entries tell that a call of a device failed.
-fn faults(journal: &[Entry]) -> u64 {
-    let mut count = 0u64;
-    for entry in journal {
-        if is_fault(entry.turn) {
-            count = count.saturating_add(1);
-        }
-    }
-    count
-}
-
 /// Whether each unit of a device is filled with its byte.
 fn are_filled(device: &MemDevice, bytes: [u8; 3]) -> bool {
     if device.layout().units() != 3 {
@@ -229,50 +175,6 @@ fn ends(alloc: Global, run: &Run) -> Result<bool, Fail> {
             && machine.reads() == run.reads
             && are_filled(owner, run.units),
     )
-}
-
-/// Whether a run over devices that tell nothing answers as the run over devices that tell all, and leaves the same.
-fn answers_the_same(alloc: Global, run: &Run) -> Result<bool, Fail> {
-    let mut told = begun(alloc, run.text, &[])?;
-    let mut silent = begun_silent(alloc, run.text, 0, 0)?;
-    let grown = finish(&mut told);
-    let owner = if finish(&mut silent) == grown && silent.phase() == Phase::Switched {
-        silent.dest()
-    } else {
-        silent.source()
-    };
-    Ok(
-        silent.journal() == told.journal()
-            && silent.reads() == told.reads()
-            && silent.totals() == told.totals()
-            && are_filled(&owner.device, run.units),
-    )
-}
-
-/// Whether a run over devices whose calls fail at random ends, and tells each call that failed.
-fn tells_its_faults(alloc: Global, run: &Run, seed: u32) -> Result<bool, Fail> {
-    let mut silent = begun_silent(alloc, run.text, 40, seed)?;
-    let _ = finish(&mut silent);
-    let failed = silent.source().faults.saturating_add(silent.dest().faults);
-    Ok(silent.finished() && faults(silent.journal()) == failed)
-}
-
-#[test]
-fn answers_the_same_where_nothing_is_told(rt: HostRuntime) -> Result<(), Fail> {
-    for run in RUNS {
-        assert!(rt; !run.fails.is_empty() || answers_the_same(rt.alloc(), run)?);
-    }
-    Ok(())
-}
-
-#[test]
-fn tells_calls_that_fail_at_random(rt: HostRuntime) -> Result<(), Fail> {
-    for run in RUNS {
-        for seed in 0..8 {
-            assert!(rt; tells_its_faults(rt.alloc(), run, seed)?);
-        }
-    }
-    Ok(())
 }
 
 #[test]
