@@ -17,3 +17,7 @@ returns-in-Err-write_driven-clause-front g c =
 pub returns-in-Err-write_driven-clause-fault : goal.returns-in-Err-write_driven-clause-fault
 returns-in-Err-write_driven-clause-fault g c = λ there.
     c.write_driven.ensures.fault (fault-same c.write_driven.result _ c.in-Err-write_driven.error _ c.in-Err-write_driven.is refl there)
+
+pub returns-in-Err-write_driven-clause-quiet : goal.returns-in-Err-write_driven-clause-quiet
+returns-in-Err-write_driven-clause-quiet g c = λ other.
+    c.write_driven.ensures.quiet (λ there. other (fault-same _ c.write_driven.result c.in-Err-write_driven.error _ refl c.in-Err-write_driven.is there))
