@@ -70,15 +70,23 @@ fn sends_a_page_and_stuns(rt: HostRuntime) -> Result<(), Fail> {
     let alloc = rt.alloc();
     let layout = Layout::new(1, 16, &[])?;
     let mut half = half_over(alloc, &layout, 9)?;
-    assert_eq!(rt; half.waits(Event::Stun, false), Some(Why::NotNow));
     assert_eq!(rt; half.round(false), done(1, 0));
     assert_eq!(rt; half.side(UnitId(0)), Side::Waiting);
     assert_eq!(rt; half.page(3), done(0, 1));
-    assert_eq!(rt; half.waits(Event::Page, false), Some(Why::NothingThere));
     assert_eq!(rt; half.rounds(), 1);
     assert_eq!(rt; half.stun(), done(0, 0));
     assert_eq!(rt; half.left(), 4);
     assert!(rt; !half.may_switch());
+    Ok(())
+}
+
+#[test]
+fn waits_for_a_round(rt: HostRuntime) -> Result<(), Fail> {
+    let alloc = rt.alloc();
+    let layout = Layout::new(1, 16, &[])?;
+    let half = half_over(alloc, &layout, 9)?;
+    assert_eq!(rt; half.waits(Event::Stun, false), Some(Why::NotNow));
+    assert_eq!(rt; half.waits(Event::Page, false), Some(Why::NothingThere));
     Ok(())
 }
 
