@@ -9,7 +9,7 @@ ghost use Rattle.xv_dest.specs.Half.{fresh};
 use crate::DestHalf;
 use std::alloc::Global;
 use std::test::Fail;
-use xv_base::{Config, Layout, MOST_CREDIT, Note, Pattern, Turn, UnitHead, UnitId, UnitOp, Why};
+use xv_base::{Config, Layout, MOST_CREDIT, Note, Pattern, Turn, UnitHead, UnitId, UnitOp};
 use xv_device::{DevicePlan, MemDevice};
 use xv_streams::{BackWire, Streams};
 use xv_wire::{MemWire, WirePlan};
@@ -119,29 +119,6 @@ fn done(a: u32, b: u32) -> Turn {
     Turn::Done(Note { a, b })
 }
 
-/// What is told of a unit: the version written last, and its `at`.
-fn last(half: &DestHalf<MemDevice>, unit: UnitId) -> (u32, Option<u64>)
-    requires { unit.0 < units half.now.told.shape }
-{
-    let _ = half.device();
-    (half.version(unit), half.recorded(unit))
-}
-
-#[test]
-fn takes_and_writes_a_message(rt: HostRuntime) -> Result<(), Fail> {
-    let alloc = rt.alloc();
-    let layout = Layout::new(2, 16, &[])?;
-    let mut half = new_half(alloc, &layout)?;
-    let mut streams = one_sent(alloc, layout)?;
-    assert_eq!(rt; half.deliver(0, &mut streams), done(1, 1));
-    assert!(rt; half.ready());
-    assert_eq!(rt; applied(&mut half, 0), Some(done(1, 1)));
-    assert!(rt; !half.ready());
-    assert_eq!(rt; last(&half, UnitId(1)), (1, Some(3)));
-    assert_eq!(rt; last(&half, UnitId(0)), (0, None));
-    Ok(())
-}
-
 /// A half that has written one message.
 fn one_written(alloc: Global, layout: &Layout) -> Result<DestHalf<MemDevice>, Fail>
     requires { layout.now ≡ shape_of 2 16 [] }
@@ -167,18 +144,13 @@ fn acknowledges_what_was_written(rt: HostRuntime) -> Result<(), Fail> {
 }
 
 #[test]
-fn writes_versions_in_order(rt: HostRuntime) -> Result<(), Fail> {
+fn holds_versions_in_order(rt: HostRuntime) -> Result<(), Fail> {
     let alloc = rt.alloc();
     let layout = Layout::new(2, 16, &[])?;
     let mut half = new_half(alloc, &layout)?;
     let mut streams = two_sent(alloc, layout)?;
     assert_eq!(rt; half.deliver(0, &mut streams), done(2, 1));
     assert_eq!(rt; half.held(UnitId(1)), 2);
-    assert_eq!(rt; applied(&mut half, 0), Some(done(1, 1)));
-    assert_eq!(rt; applied(&mut half, 1), Some(done(1, 2)));
-    assert_eq!(rt; applied(&mut half, 2), Some(Turn::Wait(Why::NothingThere)));
-    let device = half.into_device();
-    assert_eq!(rt; device.content(UnitId(1)), b"bbbbbbbbbbbbbbbb".as_slice());
     Ok(())
 }
 
