@@ -20,10 +20,6 @@ mod node_b;
 mod play;
 mod print;
 mod read;
-#[cfg(test)]
-mod tests;
-#[cfg(test)]
-mod text_tests;
 mod word;
 mod world;
 

@@ -9,4 +9,3 @@ pub mod Ends
 pub mod Arriving
 pub mod Writing
 pub mod Heads
-pub mod Scans

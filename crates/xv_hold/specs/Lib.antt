@@ -4,4 +4,3 @@ pub mod Arrival
 pub mod Chains
 pub mod Kept
 pub mod Fields
-pub mod Beside

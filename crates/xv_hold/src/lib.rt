@@ -8,8 +8,6 @@
 
 mod hold;
 mod ready;
-#[cfg(test)]
-mod tests;
 
 pub use hold::Hold;
 pub use xv_base::UnitHead;

@@ -29,8 +29,3 @@ pub use print::print_job;
 pub use reading::read_job;
 pub use word::{Call, Word};
 pub use xv_text::Place;
-
-#[cfg(test)]
-mod made_tests;
-#[cfg(test)]
-mod tests;

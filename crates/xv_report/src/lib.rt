@@ -17,6 +17,3 @@ pub use counts::{Count, Counts, Job1};
 pub use image::write_image;
 pub use laws::json_is_spelled_out;
 pub use report::write_report;
-
-#[cfg(test)]
-mod tests;

@@ -18,5 +18,3 @@ pub mod PageSets
 pub mod SendSteps
 pub mod Paging
 pub mod FreshHalf
-pub mod Stays
-pub mod Standing

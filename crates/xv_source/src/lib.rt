@@ -21,10 +21,3 @@ mod source;
 mod waiting;
 
 pub use source::SourceHalf;
-
-#[cfg(test)]
-mod guest_tests;
-#[cfg(test)]
-mod message_tests;
-#[cfg(test)]
-mod tests;

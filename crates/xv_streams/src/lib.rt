@@ -14,8 +14,6 @@ mod lane;
 mod making;
 mod received;
 mod streams;
-#[cfg(test)]
-mod tests;
 
 pub use back::BackWire;
 pub use streams::Streams;

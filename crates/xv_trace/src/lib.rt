@@ -25,6 +25,3 @@ pub use read::{read_op, verb_of};
 pub use text::read_ops;
 pub use trace::Trace;
 pub use xv_base::UnitOp;
-
-#[cfg(test)]
-mod tests;

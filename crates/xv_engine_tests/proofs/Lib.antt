@@ -1,0 +1,3 @@
+mod Stays
+mod Standing
+mod Scans

@@ -1,0 +1,14 @@
+// Tests of the engine's larger parts: the streams, the hold and the source's half. They stand apart so that none of those
+// crates is proved again for them.
+#![tactic(auto)]
+
+#[cfg(test)]
+mod hold_tests;
+#[cfg(test)]
+mod source_guest_tests;
+#[cfg(test)]
+mod source_message_tests;
+#[cfg(test)]
+mod source_tests;
+#[cfg(test)]
+mod streams_tests;
