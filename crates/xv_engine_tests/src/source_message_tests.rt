@@ -7,7 +7,7 @@ use crate::source_guest_tests::{DISK, done, half_over};
 use std::alloc::Global;
 use std::test::Fail;
 use xv_base::{Layout, NoMemory, Turn};
-use xv_streams::{BackWire, Streams};
+use xv_streams::Streams;
 use xv_wire::{MemWire, WirePlan};
 
 /// A wire that does not fail.
@@ -59,17 +59,5 @@ fn sends_a_block(rt: HostRuntime) -> Result<(), Fail> {
     let alloc = rt.alloc();
     assert_eq!(rt; send_block(alloc, 1, 1)?, done(1, 1));
     assert_eq!(rt; send_block(alloc, 2, 16)?, done(1, 1));
-    Ok(())
-}
-
-#[test]
-fn takes_credit_back(rt: HostRuntime) -> Result<(), Fail> {
-    let alloc = rt.alloc();
-    let mut half = half_over(alloc)?;
-    let mut back = BackWire::new(wire(alloc)?);
-    assert!(rt; half.credit.take());
-    assert_eq!(rt; back.put_ack(1), Ok(()));
-    assert_eq!(rt; half.credit(&mut back), done(1, 0));
-    assert_eq!(rt; half.left(), 8);
     Ok(())
 }

@@ -5,10 +5,10 @@ ghost use Rattle.std.specs.List.{position_or_len};
 ghost use Rattle.xv_hold.specs.Messages.{is_version, is_next};
 ghost use Rattle.xv_engine_tests.specs.Beside.{IsBeside};
 
-use crate::Hold;
 use std::alloc::AllocError;
 use std::test::Fail;
 use xv_base::{Layout, UnitHead, UnitId};
+use xv_hold::Hold;
 
 /// Messages in order of arrival, and for each unit the version that was written last.
 #[derive(Drop)]
