@@ -1,0 +1,3 @@
+-- The numbers of progress.
+pub mod Lists
+pub mod Numbers

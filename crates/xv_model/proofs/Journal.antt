@@ -1,0 +1,2 @@
+-- What a journal tells of its run.
+pub mod Ways
