@@ -1,2 +1,4 @@
 -- What a journal tells of its run.
 pub mod Ways
+pub mod Kinds
+pub mod Phases
