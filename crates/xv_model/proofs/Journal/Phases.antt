@@ -1,5 +1,5 @@
 -- The phase of a run is what its journal tells.
-use Rattle.std.proofs.Common.{◌≡◌, ◌==◌, ◌&&◌, ◌||◌, ◌⊎◌, Bool, true, false, if◌then◌else◌, List, [], ◌∷◌, Option, Some, None, unwrap_or, refl, ap, sym, ◌∙◌, inl, inr}
+use Rattle.std.proofs.Common.{◌≡◌, ◌==◌, ◌&&◌, ◌||◌, ◌⊎◌, Bool, true, false, if◌then◌else◌, List, [], ◌∷◌, take, Option, Some, None, unwrap_or, refl, ap, sym, ◌∙◌, inl, inr}
 use Rattle.std.specs.List.{list_any}
 use Rattle.std.proofs.lemmas.Bool.{and_parts}
 use Rattle.xv_base.specs.declared.limits.TheConstants.{SINGLE_FORMAT}
@@ -18,7 +18,7 @@ use Rattle.xv_model.proofs.Journal.Ways.{entry_ways}
 
 -- from one view to the next the phase stays, and the entry tells none; or it was live, and is the one that the entry
 -- tells
-data Changes (v w : View) (told : Option Phase) : Type 0 where
+pub data Changes (v w : View) (told : Option Phase) : Type 0 where
   stays : w.phase ≡ v.phase → told ≡ None → Changes v w told
   turns : is_live v.phase ≡ true → told ≡ Some w.phase → Changes v w told
 
@@ -43,7 +43,7 @@ goes_changes job v (Advance d) flag w = stays refl refl
 goes_changes job v (Release d) flag w = stays refl refl
 goes_changes job v Round flag w = stays refl refl
 goes_changes job v Page flag w = stays refl refl
-goes_changes job v (Send s) flag w = stays refl (group_tells (Send s) job _ refl)
+goes_changes job v (Send s) flag w = stays refl (group_tells (Send s) job (take (batch job v) v.outbox.messages) refl)
 goes_changes job v (Deliver s) flag w = stays refl (group_tells (Deliver s) job (front_group v s) refl)
 goes_changes job v Apply flag w = stays refl refl
 goes_changes job v Ack flag w = stays refl refl
@@ -74,7 +74,7 @@ fails_changes job v Switch flag w b = turns (stunned_is_live v.phase (switch_goe
 fails_changes job v Cancel flag w b = absurd (no_call flag b)
 
 pub entry_changes : (job : Job) (v : View) (e : Entry) → same_turn e.turn (turn job v e.event (is_flagged e.turn)) ≡ true → Changes v (step job v e.event (is_flagged e.turn)) (changes_to e.event e.turn)
-entry_changes job v e h = entry_ways (λ w t. Changes v w (changes_to e.event t)) job v e h (goes_changes job v e.event (is_flagged e.turn)) (fails_changes job v e.event (is_flagged e.turn))
+entry_changes job v e h = entry_ways (λ w t. Changes v w (changes_to e.event t)) job v e h (λ w b. goes_changes job v e.event (is_flagged e.turn) w) (λ w b. fails_changes job v e.event (is_flagged e.turn) w b)
 
 -- the phase that is told
 told_by : (v w : View) (told : Option Phase) → Changes v w told → w.phase ≡ unwrap_or told v.phase
@@ -118,3 +118,66 @@ passes_from test hit job v (e ∷ es) dead hits r =
     passes_from test hit job next es dead hits runs.1
     ∙ ap (λ (b : Bool). b || list_any hit es) (here ∙ ap (λ (b : Bool). test v.phase || b) (hits e))
     ∙ or_assoc (test v.phase) (hit e) (list_any hit es)
+
+-- failed, cancelled and switched
+dead_failed : (p : Phase) → is_live p ≡ true → is_failed p ≡ false
+dead_failed Running l = refl
+dead_failed Stunned l = refl
+dead_failed p l = absurd (cc)
+
+dead_cancelled : (p : Phase) → is_live p ≡ true → is_cancelled p ≡ false
+dead_cancelled Running l = refl
+dead_cancelled Stunned l = refl
+dead_cancelled p l = absurd (cc)
+
+begun_failed : (e : Event) → tells is_failed (phase_of e) ≡ false
+begun_failed Stun = refl
+begun_failed Switch = refl
+begun_failed Cancel = refl
+begun_failed e = refl
+
+begun_cancelled : (e : Event) → tells is_cancelled (phase_of e) ≡ (is_cancel e && true)
+begun_cancelled Stun = refl
+begun_cancelled Switch = refl
+begun_cancelled Cancel = refl
+begun_cancelled e = refl
+
+begun_switched : (e : Event) → tells is_switched (phase_of e) ≡ (is_switch e && true)
+begun_switched Stun = refl
+begun_switched Switch = refl
+begun_switched Cancel = refl
+begun_switched e = refl
+
+and-none : (b : Bool) → false ≡ (b && false)
+and-none true = refl
+and-none false = refl
+
+hit_failed : (e : Event) (t : Turn) → tells is_failed (changes_to e t) ≡ is_failure t
+hit_failed e (Done n) = begun_failed e
+hit_failed e Queued = refl
+hit_failed e Faulted = refl
+hit_failed e (Waits why) = refl
+hit_failed e (Broke cause) = refl
+
+hit_cancelled : (e : Event) (t : Turn) → tells is_cancelled (changes_to e t) ≡ (is_cancel e && happened t)
+hit_cancelled e (Done n) = begun_cancelled e
+hit_cancelled e Queued = and-none (is_cancel e)
+hit_cancelled e Faulted = and-none (is_cancel e)
+hit_cancelled e (Waits why) = and-none (is_cancel e)
+hit_cancelled e (Broke cause) = and-none (is_cancel e)
+
+hit_switched : (e : Event) (t : Turn) → tells is_switched (changes_to e t) ≡ (is_switch e && happened t)
+hit_switched e (Done n) = begun_switched e
+hit_switched e Queued = and-none (is_switch e)
+hit_switched e Faulted = and-none (is_switch e)
+hit_switched e (Waits why) = and-none (is_switch e)
+hit_switched e (Broke cause) = and-none (is_switch e)
+
+pub run-failed : (job : Job) (journal : List Entry) → is_run job journal ≡ true → is_failed (run job journal).phase ≡ has_failure journal
+run-failed job journal r = passes_from is_failed (λ (e : Entry). is_failure e.turn) job (first_view job) journal dead_failed (λ e. hit_failed e.event e.turn) r
+
+pub run-cancelled : (job : Job) (journal : List Entry) → is_run job journal ≡ true → is_cancelled (run job journal).phase ≡ has_cancelled journal
+run-cancelled job journal r = passes_from is_cancelled (λ (e : Entry). is_cancel e.event && happened e.turn) job (first_view job) journal dead_cancelled (λ e. hit_cancelled e.event e.turn) r
+
+pub run-switched : (job : Job) (journal : List Entry) → is_run job journal ≡ true → is_switched (run job journal).phase ≡ has_switch journal
+run-switched job journal r = passes_from is_switched (λ (e : Entry). is_switch e.event && happened e.turn) job (first_view job) journal live_not_switched (λ e. hit_switched e.event e.turn) r
