@@ -2,3 +2,4 @@
 pub mod Ways
 pub mod Kinds
 pub mod Phases
+pub mod Ends
