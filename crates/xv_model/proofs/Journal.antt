@@ -3,3 +3,5 @@ pub mod Ways
 pub mod Kinds
 pub mod Phases
 pub mod Ends
+pub mod Waits
+pub mod Guests

@@ -2,6 +2,7 @@
 use Rattle.std.specs.Prelude.{ℕ, ◌+◌, ◌==◌, ◌&&◌, not, Bool, true, false, List, [], ◌∷◌, Option, Some, None, unwrap_or, count_by, if◌then◌else◌}
 use Rattle.std.specs.List.{list_any}
 use Rattle.xv_model.specs.Job.{Job}
+use Rattle.xv_model.specs.Guest.{Ended, is_done}
 use Rattle.xv_model.specs.View.{View, Phase, first_view, disk, front}
 use Rattle.xv_model.specs.Wait.{Event}
 use Rattle.xv_model.specs.Effect.{Turn}
@@ -9,6 +10,7 @@ use Rattle.xv_model.specs.Step.{Entry, step, is_flagged}
 use Rattle.xv_model.specs.Growth.{happened, is_failure}
 use Rattle.xv_base.specs.declared.event.Phase.TheVariants.{Running, Stunned, Switched, Cancelled, Failed}
 use Rattle.xv_base.specs.declared.event.Event.TheVariants.{Guest, Release, Stun, Switch, Cancel}
+use Rattle.xv_base.specs.declared.answer.Turn.TheVariants.{Done}
 
 -- whether an event is a guest's, and whether it is this guest's
 abbrev pub is_guest : Event → Bool
@@ -88,3 +90,22 @@ releases_from job v (e ∷ es) guest = (if frees v guest e.event then 1 else 0) 
 
 abbrev pub releases : Job → List Entry → ℕ → ℕ
 releases job journal guest = releases_from job (first_view job) journal guest
+
+-- whether an event is a release, whether an answer tells a guest, and how many releases told one
+abbrev pub is_release : Event → Bool
+is_release (Release d) = true
+is_release e = false
+
+abbrev pub tells : ℕ → Turn → Bool
+tells guest (Done n) = n.a == guest
+tells guest t = false
+
+abbrev pub releases_told : ℕ → List Entry → ℕ
+releases_told guest journal = count_by (λ e. is_release e.event && tells guest e.turn) journal
+
+-- how many operations of a guest were done, and how many faulted
+abbrev pub done_by : List Ended → ℕ → ℕ
+done_by history guest = count_by (λ e. (e.guest.0 == guest) && is_done e.outcome) history
+
+abbrev pub faulted_by : List Ended → ℕ → ℕ
+faulted_by history guest = count_by (λ e. (e.guest.0 == guest) && not (is_done e.outcome)) history
