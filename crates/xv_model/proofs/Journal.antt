@@ -5,3 +5,4 @@ pub mod Phases
 pub mod Ends
 pub mod Waits
 pub mod Guests
+pub mod OneStep

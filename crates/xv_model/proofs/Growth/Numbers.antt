@@ -1,5 +1,5 @@
 -- By how much the numbers of progress grow in one step.
-use Rattle.std.proofs.Common.{◌≡◌, ℕ, ◌+◌, ◌<◌, ◌≤◌, ◌^◌, Bool, true, false, List, [], ◌∷◌, length, map, set, sum, sum_by, Option, None, refl, arith}
+use Rattle.std.proofs.Common.{◌≡◌, ℕ, ◌+◌, ◌<◌, ◌≤◌, ◌^◌, Bool, true, length, map, set, sum, None, refl, arith}
 use Rattle.std.proofs.lemmas.Bool.{ltb-true}
 use Rattle.std.proofs.lemmas.List.{length_push}
 use Rattle.std.proofs.lemmas.List.Sums.{sum_by-set}
@@ -11,7 +11,7 @@ use Rattle.xv_model.specs.Job.{Job, IsGoodJob, UnitOp, disk_of, operation_count}
 use Rattle.xv_model.specs.View.{View, Disk, no_disk, disk, front, number, ready_message}
 use Rattle.xv_model.specs.Wait.{Event, Why, Aim, Alone, Store, Join, Mirror, wait, fits, next_operation, next_aim}
 use Rattle.xv_model.specs.Effect.{effect, fault_effect, answer, fault_answer, guest_by, guest_answer, joined, front_gone, region_length, without_region}
-use Rattle.xv_model.specs.Step.{step, turn, breaks}
+use Rattle.xv_model.specs.Step.{step, turn}
 use Rattle.xv_model.specs.Invariant.{IsViewOf}
 use Rattle.xv_model.specs.Growth.{copied, block_count, applied, ends, blocks_copied, applies}
 use Rattle.xv_model.proofs.GoesOn.{apply_goes}

@@ -1,17 +1,18 @@
 -- How a finished run ended: switched where no cancel was asked for and no call failed, and else as asked.
-use Rattle.std.proofs.Common.{◌≡◌, ℕ, ◌+◌, ◌<◌, ◌==◌, ◌&&◌, ◌||◌, Bool, true, false, if◌then◌else◌, List, [], ◌∷◌, ◌++◌, length, Option, Some, None, is_some, refl, ap, sym, subst, ◌∙◌, inl, inr, arith}
+use Rattle.std.proofs.Common.{◌≡◌, ℕ, ◌+◌, ◌&&◌, ◌||◌, Bool, true, false, if◌then◌else◌, List, [], ◌∷◌, ◌++◌, length, Option, Some, None, is_some, refl, ap, sym, subst, ◌∙◌}
 use Rattle.std.specs.List.{list_any, list_all}
 use Rattle.std.proofs.lemmas.Bool.{and_parts, eqb-true, both_ways}
-use Rattle.xv_base.specs.declared.event.Event.TheVariants.{Guest, Release, Cancel}
+use Rattle.xv_base.specs.declared.event.Event.TheVariants.{Cancel}
 use Rattle.xv_base.specs.declared.event.Phase.TheVariants.{Running, Stunned, Switched, Cancelled, Failed}
 use Rattle.xv_base.specs.declared.answer.Turn.TheVariants.{Done, Queued, Faulted, Wait as Waits, Failed as Broke}
 use Rattle.xv_model.specs.Job.{Job, IsGoodJob, UnitOp}
 use Rattle.xv_model.specs.View.{View, Phase, first_view, is_live, is_switched}
 use Rattle.xv_model.specs.Wait.{Event, Aim, Alone, Store, Join, Mirror, wait, fits, reaches, has_cancel, next_operation, next_aim}
-use Rattle.xv_model.specs.Effect.{Turn, guest_by, ended_as, effect, fault_effect}
+use Rattle.xv_model.specs.Effect.{Turn, guest_by}
 use Rattle.xv_model.specs.Step.{Entry, Call, step, turn, call, after, run, is_flagged, is_planned, is_call, same_truth, same_turn, is_run, is_faithful, is_faithful_from}
 use Rattle.xv_model.specs.Invariant.{IsViewOf}
 use Rattle.xv_model.specs.Work.{is_finished}
+use Rattle.xv_model.specs.Driver.{driven}
 use Rattle.xv_model.specs.Growth.{is_failure}
 use Rattle.xv_model.specs.Journal.{has_failure, is_cancelled, is_failed}
 use Rattle.xv_model.proofs.First.{first_view-holds}
@@ -21,6 +22,7 @@ use Rattle.xv_model.proofs.Finished.{finished}
 use Rattle.xv_model.proofs.GoesOn.{CancelGoes, cancel_goes}
 use Rattle.xv_model.proofs.NeverSwitched.{run-never_switched}
 use Rattle.xv_model.proofs.OneMore.{is_run-one}
+use Rattle.xv_model.proofs.Bound.Driven.{driven-ends}
 use Rattle.xv_model.proofs.Journal.Ways.{went_on}
 use Rattle.xv_model.proofs.Journal.Phases.{run-failed}
 
@@ -160,3 +162,13 @@ no_flags-from job v calls (e ∷ es) none h =
 
 pub no_faults-no_flag : (job : Job) (journal : List Entry) → job.faults ≡ [] → is_faithful job journal ≡ true → list_any (λ (e : Entry). is_flagged e.turn) journal ≡ false
 no_faults-no_flag job journal none h = no_flags-from job (first_view job) [] journal none h
+
+-- the driven run
+driven-unfailed : (job : Job) → IsGoodJob job → job.faults ≡ [] → has_failure (driven job) ≡ false
+driven-unfailed job good none = no_flag-no_failure (driven job) (no_faults-no_flag job (driven job) none (driven-ends job good).faithful)
+
+pub driven-switched : (job : Job) → IsGoodJob job → job.faults ≡ [] → has_cancel job ≡ false → is_switched (run job (driven job)).phase ≡ true
+driven-switched job good none asked = let d = driven-ends job good in finished-switched job (driven job) good d.fitting d.runs (driven-unfailed job good none) asked d.finished
+
+pub driven-cancelled : (job : Job) → IsGoodJob job → job.faults ≡ [] → has_cancel job ≡ true → is_cancelled (run job (driven job)).phase ≡ true
+driven-cancelled job good none asked = let d = driven-ends job good in finished-cancelled job (driven job) good d.fitting d.runs (driven-unfailed job good none) asked d.finished

@@ -1,16 +1,14 @@
 -- A guest's entries in a journal, against its operations that have ended and its write that waits.
-use Rattle.std.proofs.Common.{◌≡◌, ℕ, ◌+◌, ◌<◌, ◌≤◌, ◌==◌, ◌&&◌, not, Bool, true, false, if◌then◌else◌, List, [], ◌∷◌, ◌++◌, length, map, set, count_by, Option, None, refl, ap, ◌∙◌, arith}
+use Rattle.std.proofs.Common.{◌≡◌, ℕ, ◌+◌, ◌<◌, ◌==◌, ◌&&◌, not, Bool, true, false, if◌then◌else◌, List, [], ◌∷◌, length, set, None, refl, ap, ◌∙◌, arith}
 use Rattle.std.specs.List.{list_all}
 use Rattle.std.proofs.lemmas.Bool.{and_parts, ltb-true}
 use Rattle.std.proofs.lemmas.List.Sums.{sum_by-cons, sum_by_push}
 use Rattle.xv_base.specs.declared.event.Event.TheVariants.{Guest, Begin, Read, Advance, Release, Round, Page, Send, Deliver, Apply, Ack, Credit, Stun, Switch, Cancel}
 use Rattle.xv_base.specs.declared.event.Phase.TheVariants.{Cancelled, Failed}
-use Rattle.xv_base.specs.declared.operation.Outcome.{Outcome}
 use Rattle.xv_base.specs.declared.operation.Outcome.TheVariants.{Done, Faulted}
-use Rattle.xv_base.specs.declared.unit.DiskShape.{DiskShape}
 use Rattle.xv_model.specs.Job.{Job, IsGoodJob, disk_of}
 use Rattle.xv_model.specs.Guest.{Ended, ended, is_done}
-use Rattle.xv_model.specs.View.{View, Disk, Phase, first_view, disk, front}
+use Rattle.xv_model.specs.View.{View, first_view, disk, front}
 use Rattle.xv_model.specs.Wait.{Event, Aim, Alone, Store, Join, Mirror, wait, fits, next_operation, next_aim}
 use Rattle.xv_model.specs.Effect.{Turn, effect, fault_effect, answer, fault_answer, guest_by, guest_answer, joined, front_gone, region_length, ended_as, given_up}
 use Rattle.xv_model.specs.Step.{Entry, step, turn, after, run, is_flagged, same_turn, is_run, is_run_from}

@@ -1,5 +1,5 @@
 -- No entry of a run waits; and how long a run's journal is.
-use Rattle.std.proofs.Common.{◌≡◌, ℕ, ◌+◌, ◌<◌, ◌≤◌, ◌^◌, ◌&&◌, not, Bool, true, false, if◌then◌else◌, List, [], ◌∷◌, length, count_by, refl, arith}
+use Rattle.std.proofs.Common.{◌≡◌, ℕ, ◌+◌, ◌<◌, ◌≤◌, ◌^◌, ◌&&◌, not, Bool, true, false, if◌then◌else◌, List, [], ◌∷◌, length, refl, arith}
 use Rattle.std.specs.List.{list_all}
 use Rattle.std.proofs.lemmas.Bool.{and_parts}
 use Rattle.std.proofs.lemmas.List.Sums.{sum_by-cons}
@@ -9,7 +9,7 @@ use Rattle.xv_model.specs.Job.{Job, IsGoodJob, UnitOp}
 use Rattle.xv_model.specs.View.{View, first_view}
 use Rattle.xv_model.specs.Wait.{Event, Aim, Alone, Store, Join, Mirror, fits, next_operation, next_aim}
 use Rattle.xv_model.specs.Effect.{Turn, answer, fault_answer, guest_answer}
-use Rattle.xv_model.specs.Step.{Entry, step, turn, is_flagged, same_turn, run, is_run, is_run_from}
+use Rattle.xv_model.specs.Step.{Entry, step, turn, is_flagged, same_turn, is_run, is_run_from}
 use Rattle.xv_model.specs.Work.{bound}
 use Rattle.xv_model.specs.Growth.{happened, is_queued, is_fault}
 use Rattle.xv_model.specs.Journal.{is_guest, guest_entries, other_entries}
