@@ -78,10 +78,12 @@ pub fn cancel_comes_at_its_number()
 pub fn guests_have_their_entries()
     ensures own { (job : Job) (journal : List Entry) (guest : ℕ) → IsGoodJob job → list_all (λ e. fits job e.event) journal ≡ true
         → is_run job journal ≡ true
-        → own_entries guest happened journal + own_entries guest is_fault journal + own_entries guest is_queued journal ≡ ended (run job journal).history guest + waits_in_all (run job journal).disks guest }
+        → own_entries guest happened journal + own_entries guest is_fault journal + own_entries guest is_queued journal ≡
+        ended (run job journal).history guest + waits_in_all (run job journal).disks guest }
     ensures ended { (job : Job) (journal : List Entry) (guest : ℕ) → IsGoodJob job → list_all (λ e. fits job e.event) journal ≡ true
         → is_run job journal ≡ true
-        → ended (run job journal).history guest ≡ own_entries guest happened journal + own_entries guest is_fault journal + releases job journal guest }
+        → ended (run job journal).history guest ≡
+        own_entries guest happened journal + own_entries guest is_fault journal + releases job journal guest }
     ensures queued { (job : Job) (journal : List Entry) (guest : ℕ) → IsGoodJob job → list_all (λ e. fits job e.event) journal ≡ true
         → is_run job journal ≡ true
         → own_entries guest is_queued journal ≡ releases job journal guest + waits_in_all (run job journal).disks guest }
@@ -94,7 +96,8 @@ pub fn outcomes_have_their_entries()
         → is_run job journal ≡ true → done_by (run job journal).history guest ≡ own_entries guest happened journal + releases_told guest journal }
     ensures faulted { (job : Job) (journal : List Entry) (guest : ℕ) → IsGoodJob job → list_all (λ e. fits job e.event) journal ≡ true
         → is_run job journal ≡ true
-        → faulted_by (run job journal).history guest + releases_told guest journal + waits_in_all (run job journal).disks guest ≡ own_entries guest is_fault journal + own_entries guest is_queued journal }
+        → faulted_by (run job journal).history guest + releases_told guest journal + waits_in_all (run job journal).disks guest ≡
+        own_entries guest is_fault journal + own_entries guest is_queued journal }
 {}
 
 /// The driven run of a job without planned faults switches, or is cancelled where that was asked for.
