@@ -30,3 +30,5 @@ pub mod NeverSwitched
 pub mod GoodJobs
 pub mod Bound
 pub mod Outside
+pub mod Journal
+pub mod Growth

@@ -9,6 +9,8 @@ pub mod Report
 pub mod Invariant
 pub mod Contents
 pub mod Outside
+pub mod Growth
+pub mod Journal
 pub mod Work
 pub mod Driver
 pub mod Worked

@@ -4,6 +4,8 @@
 
 pub mod bound_laws;
 pub mod contents_laws;
+pub mod growth_laws;
+pub mod journal_laws;
 pub mod laws;
 pub mod outside_laws;
 pub mod witnesses;

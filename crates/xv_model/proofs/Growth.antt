@@ -1,0 +1,4 @@
+-- The numbers of progress.
+pub mod Lists
+pub mod Numbers
+pub mod Runs
