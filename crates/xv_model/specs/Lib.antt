@@ -12,3 +12,4 @@ pub mod Outside
 pub mod Work
 pub mod Driver
 pub mod Worked
+pub mod Ending

@@ -4,6 +4,7 @@
 
 pub mod bound_laws;
 pub mod contents_laws;
+pub mod ending_laws;
 pub mod laws;
 pub mod outside_laws;
 pub mod witnesses;
