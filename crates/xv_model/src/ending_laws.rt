@@ -1,15 +1,18 @@
 //! The laws of a migration that ends, and of one that has ended, each as the contract of a function that does nothing.
 
-ghost use Rattle.std.specs.Prelude.{◌≡◌, ◌≢◌, ℕ, Bool, true, false, List, [], ◌∷◌, ◌++◌, drop, set, Some, None, is_some, if◌then◌else◌};
-ghost use Rattle.xv_model.specs.Job.{Job};
+ghost use Rattle.std.specs.Prelude.{◌≡◌, ◌≢◌, ℕ, Bool, true, false, List, [], ◌∷◌, ◌++◌, length, take, drop, set, replicate, Some, None, is_some, if◌then◌else◌};
+ghost use Rattle.std.specs.List.{list_all};
+ghost use Rattle.xv_model.specs.Job.{Job, IsGoodJob};
 ghost use Rattle.xv_model.specs.Guest.{writes_to};
-ghost use Rattle.xv_model.specs.View.{View, disk, front, is_empty, is_live, is_switched};
-ghost use Rattle.xv_model.specs.Wait.{Event, wait};
+ghost use Rattle.xv_model.specs.View.{View, first_view, disk, front, is_empty, is_live, is_switched};
+ghost use Rattle.xv_model.specs.Wait.{Event, wait, fits};
 ghost use Rattle.xv_model.specs.Effect.{front_gone};
-ghost use Rattle.xv_model.specs.Step.{step, breaks};
+ghost use Rattle.xv_model.specs.Step.{step, breaks, turns, play, is_run};
 ghost use Rattle.xv_model.specs.Invariant.{IsViewOf};
-ghost use Rattle.xv_model.specs.Contents.{Contents, after_operation, front_operation, step_contents};
+ghost use Rattle.xv_model.specs.Contents.{Contents, first_contents, after_operation, front_operation, step_contents, contents_after, unit_content};
 ghost use Rattle.xv_model.specs.Ending.{is_guests};
+ghost use Rattle.xv_model.specs.Worked.{view_after, totals_after};
+ghost use Rattle.xv_model.specs.Worked.CancelledWithAQueue.{cancelled_with_a_queue_job, cancelled_with_a_queue_events, cancelled_with_a_queue_turns, cancelled_with_a_queue_totals};
 ghost use Rattle.xv_base.specs.declared.operation.Outcome.TheVariants.{Done, Faulted};
 ghost use Rattle.xv_base.specs.declared.answer.Why.TheVariants.{NothingThere};
 ghost use Rattle.xv_base.specs.declared.event.Event.TheVariants.{Guest, Release};
@@ -56,4 +59,27 @@ pub fn endings_and_failures_keep_the_queues()
 pub fn ended_migrations_act_on_one_side()
     ensures dest_stays { (job : Job) (v : View) (c : Contents) (e : Event) (flag : Bool) → is_live v.phase ≡ false → is_switched v.phase ≡ false → (step_contents job v e flag c).dest ≡ c.dest }
     ensures source_stays { (job : Job) (v : View) (c : Contents) (e : Event) (flag : Bool) → IsViewOf job v → is_switched v.phase ≡ true → (step_contents job v e flag c).source ≡ c.source }
+{}
+
+/// Two writes wait where a migration is cancelled: the region goes, the queue stays; then the first is done on the source
+/// and the second fails there, and the guests read on. The destination keeps what stood there.
+pub fn cancelled_with_a_queue()
+    ensures good { IsGoodJob cancelled_with_a_queue_job }
+    ensures events_fit { list_all (λ e. fits cancelled_with_a_queue_job e.event) (play cancelled_with_a_queue_job cancelled_with_a_queue_events) ≡ true }
+    ensures a_run { is_run cancelled_with_a_queue_job (play cancelled_with_a_queue_job cancelled_with_a_queue_events) ≡ true }
+    ensures answers { turns cancelled_with_a_queue_job cancelled_with_a_queue_events ≡ cancelled_with_a_queue_turns }
+    ensures report { totals_after cancelled_with_a_queue_job cancelled_with_a_queue_events ≡ cancelled_with_a_queue_totals }
+    ensures region_before { (disk (view_after cancelled_with_a_queue_job (take 6 cancelled_with_a_queue_events)) 0).region ≡ 2 }
+    ensures region_after { (disk (view_after cancelled_with_a_queue_job (take 7 cancelled_with_a_queue_events)) 0).region ≡ 0 }
+    ensures ended { is_live (view_after cancelled_with_a_queue_job (take 7 cancelled_with_a_queue_events)).phase ≡ false }
+    ensures two_wait { length (disk (view_after cancelled_with_a_queue_job (take 7 cancelled_with_a_queue_events)) 0).queue ≡ 2 }
+    ensures goes_on { wait cancelled_with_a_queue_job (view_after cancelled_with_a_queue_job (take 7 cancelled_with_a_queue_events)) (Release 0) false ≡ None }
+    ensures one_waits { length (disk (view_after cancelled_with_a_queue_job (take 8 cancelled_with_a_queue_events)) 0).queue ≡ 1 }
+    ensures fails { breaks cancelled_with_a_queue_job (view_after cancelled_with_a_queue_job (take 8 cancelled_with_a_queue_events)) (Release 0) true ≡ true }
+    ensures history { (view_after cancelled_with_a_queue_job (take 10 cancelled_with_a_queue_events)).history ≡
+        record { guest = record { 0 = 2 }; outcome = Done } ∷ record { guest = record { 0 = 0 }; outcome = Done } ∷ record { guest = record { 0 = 1 }; outcome = Faulted } ∷ [] }
+    ensures source_1 { unit_content (contents_after cancelled_with_a_queue_job (first_view cancelled_with_a_queue_job) (first_contents cancelled_with_a_queue_job (replicate 5 (9 ∷ []))) (play cancelled_with_a_queue_job cancelled_with_a_queue_events)).source 1 ≡ replicate 16 170 }
+    ensures source_2 { unit_content (contents_after cancelled_with_a_queue_job (first_view cancelled_with_a_queue_job) (first_contents cancelled_with_a_queue_job (replicate 5 (9 ∷ []))) (play cancelled_with_a_queue_job cancelled_with_a_queue_events)).source 2 ≡ replicate 16 0 }
+    ensures reads { (contents_after cancelled_with_a_queue_job (first_view cancelled_with_a_queue_job) (first_contents cancelled_with_a_queue_job (replicate 5 (9 ∷ []))) (play cancelled_with_a_queue_job cancelled_with_a_queue_events)).reads ≡ 0 ∷ 0 ∷ 0 ∷ 0 ∷ 170 ∷ 170 ∷ [] }
+    ensures dest { (contents_after cancelled_with_a_queue_job (first_view cancelled_with_a_queue_job) (first_contents cancelled_with_a_queue_job (replicate 5 (9 ∷ []))) (play cancelled_with_a_queue_job cancelled_with_a_queue_events)).dest ≡ replicate 5 (9 ∷ []) }
 {}
