@@ -31,3 +31,5 @@ pub mod GoodJobs
 pub mod Bound
 pub mod Outside
 pub mod Ending
+pub mod Sums
+pub mod Plays

@@ -7,5 +7,7 @@ pub mod contents_laws;
 pub mod ending_laws;
 pub mod laws;
 pub mod outside_laws;
+pub mod play_laws;
+pub mod sum_laws;
 pub mod witnesses;
 pub mod worked;
