@@ -3,4 +3,5 @@ pub mod Dead
 pub mod Released
 pub mod Queues
 pub mod Sides
+pub mod Failing
 pub mod WorkedJob

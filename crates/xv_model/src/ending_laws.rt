@@ -6,15 +6,18 @@ ghost use Rattle.xv_model.specs.Job.{Job, IsGoodJob};
 ghost use Rattle.xv_model.specs.Guest.{writes_to};
 ghost use Rattle.xv_model.specs.View.{View, first_view, disk, front, is_empty, is_live, is_switched};
 ghost use Rattle.xv_model.specs.Wait.{Event, wait, fits};
-ghost use Rattle.xv_model.specs.Effect.{front_gone};
-ghost use Rattle.xv_model.specs.Step.{step, breaks, turns, play, is_run};
+ghost use Rattle.xv_model.specs.Effect.{front_gone, given_up};
+ghost use Rattle.xv_model.specs.Step.{step, turn, call, is_call, is_flagged, breaks, turns, play, is_run};
 ghost use Rattle.xv_model.specs.Invariant.{IsViewOf};
 ghost use Rattle.xv_model.specs.Contents.{Contents, first_contents, after_operation, front_operation, step_contents, contents_after, unit_content};
-ghost use Rattle.xv_model.specs.Ending.{is_guests};
+ghost use Rattle.xv_model.specs.Ending.{is_guests, guest_of};
 ghost use Rattle.xv_model.specs.Worked.{view_after, totals_after};
 ghost use Rattle.xv_model.specs.Worked.CancelledWithAQueue.{cancelled_with_a_queue_job, cancelled_with_a_queue_events, cancelled_with_a_queue_turns, cancelled_with_a_queue_totals};
 ghost use Rattle.xv_base.specs.declared.operation.Outcome.TheVariants.{Done, Faulted};
 ghost use Rattle.xv_base.specs.declared.answer.Why.TheVariants.{NothingThere};
+ghost use Rattle.xv_base.specs.declared.answer.Cause.{Cause};
+ghost use Rattle.xv_base.specs.declared.answer.Turn.TheVariants.{Faulted as GuestFault, Failed as Broke};
+ghost use Rattle.xv_base.specs.declared.event.Phase.TheVariants.{Failed};
 ghost use Rattle.xv_base.specs.declared.event.Event.TheVariants.{Guest, Release};
 
 /// Where the phase is not live it stays what it is, whatever the event: all wait but the guests' operations and the
@@ -59,6 +62,14 @@ pub fn endings_and_failures_keep_the_queues()
 pub fn ended_migrations_act_on_one_side()
     ensures dest_stays { (job : Job) (v : View) (c : Contents) (e : Event) (flag : Bool) → is_live v.phase ≡ false → is_switched v.phase ≡ false → (step_contents job v e flag c).dest ≡ c.dest }
     ensures source_stays { (job : Job) (v : View) (c : Contents) (e : Event) (flag : Bool) → IsViewOf job v → is_switched v.phase ≡ true → (step_contents job v e flag c).source ≡ c.source }
+{}
+
+/// A call that fails is told as what it does: an event that makes none never fails; the answer that the migration failed
+/// comes where it is given up as failed, and the answer of a fault where an operation ended as faulted.
+pub fn failures_are_told_as_they_are()
+    ensures no_call { (job : Job) (v : View) (e : Event) (flag : Bool) → is_call (call job v e) ≡ false → is_flagged (turn job v e flag) ≡ false }
+    ensures failed { (job : Job) (v : View) (e : Event) (flag : Bool) (cause : Cause) → turn job v e flag ≡ Broke cause → step job v e flag ≡ given_up v Failed }
+    ensures faulted { (job : Job) (v : View) (e : Event) (flag : Bool) → turn job v e flag ≡ GuestFault → (step job v e flag).history ≡ v.history ++ record { guest = guest_of v e; outcome = Faulted } ∷ [] }
 {}
 
 /// Two writes wait where a migration is cancelled: the region goes, the queue stays; then the first is done on the source

@@ -33,7 +33,7 @@ tells-if : (c failed : Bool) (s t : Turn) → Tells s failed → Tells t failed 
 tells-if true failed s t h k = h
 tells-if false failed s t h k = k
 
-tells-answer : (job : Job) (v : View) (e : Event) → Tells (answer job v e) false
+pub tells-answer : (job : Job) (v : View) (e : Event) → Tells (answer job v e) false
 tells-answer job v (Guest g) = tells-if (is_join (next_aim job v g.0)) false Queued _ (record { flagged = refl; goes = refl; same = refl }) (tells-note _ _)
 tells-answer job v (Begin d) = tells-note _ _
 tells-answer job v (Read d) = tells-note _ _
