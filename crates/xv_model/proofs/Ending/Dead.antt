@@ -1,12 +1,12 @@
 -- Where the phase is not live, only what the guests ask for goes on, and it changes the history and the queues alone.
-use Rattle.std.specs.Prelude.{◌≡◌, ℕ, ◌+◌, ◌&&◌, not, Bool, true, false, List, [], ◌∷◌, ◌++◌, length, set, get_or, Option, Some, None, is_some, if◌then◌else◌}
+use Rattle.std.specs.Prelude.{◌≡◌, ℕ, ◌+◌, Bool, true, false, List, [], ◌∷◌, ◌++◌, length, set, Option, Some, None, is_some, if◌then◌else◌}
 use Rattle.std.proofs.Common.{refl, ap, sym, subst, ◌∙◌}
-use Rattle.std.proofs.lemmas.Bool.{both_ways, cases_Bool, false_from_ne_true}
-use Rattle.xv_model.specs.Job.{Job, UnitOp, is_page, disk_of, block_of}
-use Rattle.xv_model.specs.View.{View, Disk, no_disk, disk, front, is_running, is_live, is_behind, is_inside}
-use Rattle.xv_model.specs.Wait.{Event, Why, Aim, Alone, Store, Join, Mirror, aim, next_operation, next_aim, wait}
+use Rattle.std.proofs.lemmas.Bool.{both_ways}
+use Rattle.xv_model.specs.Job.{Job, UnitOp}
+use Rattle.xv_model.specs.View.{View, Disk, no_disk, disk, front, is_running, is_live}
+use Rattle.xv_model.specs.Wait.{Event, Why, Alone, aim, next_operation, wait}
 use Rattle.xv_model.specs.Effect.{Outcome, made, front_gone, ended_as, guest_by, guest_done, released, effect, fault_effect}
-use Rattle.xv_model.specs.Step.{step, view_by, breaks}
+use Rattle.xv_model.specs.Step.{step}
 use Rattle.xv_model.specs.Ending.{is_guests}
 use Rattle.xv_base.specs.declared.event.Phase.{Phase}
 use Rattle.xv_base.specs.declared.event.Phase.TheVariants.{Running, Stunned, Switched, Cancelled, Failed}

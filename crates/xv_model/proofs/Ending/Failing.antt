@@ -1,19 +1,19 @@
 -- A call that fails is told as what it does.
-use Rattle.std.specs.Prelude.{◌≡◌, ℕ, ◌&&◌, Bool, true, false, List, [], ◌∷◌, ◌++◌, Option, Some, None}
+use Rattle.std.specs.Prelude.{◌≡◌, Bool, true, false, [], ◌∷◌, ◌++◌, Option, Some, None}
 use Rattle.std.proofs.Common.{refl, ap, sym, ◌∙◌}
 use Rattle.std.proofs.lemmas.Bool.{both_ways, and_right, and_parts}
 use Rattle.xv_model.specs.Job.{Job}
 use Rattle.xv_model.specs.View.{View}
 use Rattle.xv_model.specs.Wait.{Event, Why, wait}
-use Rattle.xv_model.specs.Effect.{Turn, given_up, answer, fault_answer, fault_effect}
+use Rattle.xv_model.specs.Effect.{given_up, answer, fault_answer, fault_effect}
 use Rattle.xv_model.specs.Step.{step, view_by, turn, turn_by, call, is_call, is_flagged, breaks}
 use Rattle.xv_model.specs.Ending.{guest_of}
 use Rattle.xv_base.specs.declared.operation.Outcome.TheVariants.{Faulted}
 use Rattle.xv_base.specs.declared.answer.Cause.{Cause}
 use Rattle.xv_base.specs.declared.answer.Turn.TheVariants.{Faulted as GuestFault, Failed as Broke}
 use Rattle.xv_base.specs.declared.event.Phase.TheVariants.{Failed}
-use Rattle.xv_base.specs.declared.event.Event.TheVariants.{Guest, Begin, Read, Advance, Release, Round, Page, Send, Deliver, Apply, Ack, Credit, Stun, Switch, Cancel}
-use Rattle.xv_model.proofs.Bound.Driven.{Tells, tells-answer}
+use Rattle.xv_base.specs.declared.event.Event.TheVariants.{Guest, Begin, Advance, Release, Round, Stun, Cancel}
+use Rattle.xv_model.proofs.Bound.Driven.{tells-answer}
 
 unbroken : (why : Option Why) (broken : Bool) (job : Job) (v : View) (e : Event) → broken ≡ false → is_flagged (turn_by why broken job v e) ≡ false
 unbroken (Some why) broken job v e whole = refl

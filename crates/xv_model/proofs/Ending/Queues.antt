@@ -1,6 +1,6 @@
 -- A cancel and a failure keep every cursor, and every queue but that of a queued write that failed.
-use Rattle.std.specs.Prelude.{◌≡◌, ◌≢◌, ℕ, zero, suc, Bool, true, false, List, [], ◌∷◌, map, set, get_or, None}
-use Rattle.std.proofs.Common.{refl, ap, sym, ◌∙◌}
+use Rattle.std.specs.Prelude.{◌≡◌, ℕ, zero, suc, Bool, true, false, List, [], ◌∷◌, map, set, get_or, None}
+use Rattle.std.proofs.Common.{refl, ap}
 use Rattle.std.proofs.lemmas.Bool.{both_ways}
 use Rattle.xv_model.specs.Job.{Job}
 use Rattle.xv_model.specs.View.{View, Disk, Phase, no_disk, disk, is_live, is_switched}
@@ -8,7 +8,7 @@ use Rattle.xv_model.specs.Wait.{Event, wait}
 use Rattle.xv_model.specs.Effect.{front_gone, without_region, given_up, effect, fault_effect}
 use Rattle.xv_model.specs.Step.{step, breaks}
 use Rattle.xv_model.specs.Ending.{is_guests}
-use Rattle.xv_base.specs.declared.event.Event.TheVariants.{Guest, Begin, Read, Advance, Release, Round, Page, Send, Deliver, Apply, Ack, Credit, Stun, Switch, Cancel}
+use Rattle.xv_base.specs.declared.event.Event.TheVariants.{Guest, Release, Stun, Switch, Cancel}
 use Rattle.xv_model.proofs.Layouts.{kept_by}
 use Rattle.xv_model.proofs.Steps.{step_cases}
 

@@ -1,6 +1,6 @@
 -- Where the migration has ended, the guests act on one side alone.
-use Rattle.std.specs.Prelude.{◌≡◌, ℕ, ◌||◌, Bool, true, false, List, Option, Some, None, if◌then◌else◌}
-use Rattle.std.proofs.Common.{refl, ap, sym, ◌∙◌}
+use Rattle.std.specs.Prelude.{◌≡◌, Bool, true, false, Option, Some, None, if◌then◌else◌}
+use Rattle.std.proofs.Common.{refl, ap}
 use Rattle.std.proofs.lemmas.Bool.{or_left}
 use Rattle.xv_model.specs.Job.{Job}
 use Rattle.xv_model.specs.View.{View, is_live, is_switched}
@@ -11,7 +11,6 @@ use Rattle.xv_model.specs.Contents.{Contents, after_operation, moves, fault_move
 use Rattle.xv_model.specs.Ending.{is_guests}
 use Rattle.xv_base.specs.declared.event.Phase.{Phase}
 use Rattle.xv_base.specs.declared.event.Phase.TheVariants.{Running, Stunned, Switched, Cancelled, Failed}
-use Rattle.xv_base.specs.declared.answer.Why.TheVariants.{NothingThere}
 use Rattle.xv_base.specs.declared.event.Event.TheVariants.{Guest, Release}
 use Rattle.xv_model.proofs.Ending.Dead.{dead_goes}
 use Rattle.xv_model.proofs.Ending.Released.{switched-none_waits}

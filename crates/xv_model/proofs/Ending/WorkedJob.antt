@@ -1,5 +1,5 @@
 -- The limits of the worked job that is cancelled with a queue.
-use Rattle.std.proofs.Common.{◌≡◌, ◌<◌, ◌≤◌, ℕ, zero, suc, length, refl, inl, inr, arith}
+use Rattle.std.proofs.Common.{◌≡◌, ◌<◌, ◌≤◌, ℕ, zero, suc, length, refl, inl, arith}
 use Rattle.std.specs.Prelude.{None}
 use Rattle.xv_base.specs.Layout.{layout_fault}
 use Rattle.xv_model.specs.Job.{IsGoodJob, IsLegal, blocks, trace, operation}

@@ -8,7 +8,7 @@ use Rattle.xv_model.specs.Job.{Job}
 use Rattle.xv_model.specs.View.{View, first_view}
 use Rattle.xv_model.specs.Wait.{Event, Why, wait, fits}
 use Rattle.xv_model.specs.Effect.{Turn}
-use Rattle.xv_model.specs.Step.{Entry, Call, step, view_by, turn, turn_by, breaks, call, is_wait, is_flagged, same_turn, is_run_from, is_run, same_truth, is_planned, is_faithful_from, is_faithful, flag, flag_by, entry_of, call_of, turns_from, entries_of, play}
+use Rattle.xv_model.specs.Step.{Entry, Call, step, view_by, turn, turn_by, breaks, call, is_wait, same_turn, is_run_from, is_run, same_truth, is_planned, is_faithful_from, is_faithful, flag, flag_by, entry_of, call_of, turns_from, entries_of, play}
 use Rattle.xv_model.proofs.Bound.Driven.{Tells, driven-flag, driven-tells, same_truth-same}
 
 -- what is shown of the entries from a view on

@@ -1,10 +1,10 @@
 -- A settled unit with nothing outstanding has on the destination what the guest has now.
-use Rattle.std.specs.Prelude.{◌≡◌, ◌≤◌, ◌<◌, ℕ, ◌&&◌, nat_lt, not, true, false, length, get_or, if◌then◌else◌}
+use Rattle.std.specs.Prelude.{◌≡◌, ◌≤◌, ◌<◌, ℕ, nat_lt, true, false, length}
 use Rattle.std.proofs.Common.{arith, refl, sym, ◌∙◌}
 use Rattle.std.proofs.lemmas.Bool.{and_parts, ltb-true, false_from_ne_true}
-use Rattle.xv_model.specs.Job.{Job, unit_count, units, is_page, disk_of, block_of}
+use Rattle.xv_model.specs.Job.{Job, unit_count, units}
 use Rattle.xv_model.specs.Guest.{content, wrote}
-use Rattle.xv_model.specs.View.{View, number, member, is_live, is_behind, no_disk}
+use Rattle.xv_model.specs.View.{View, number, is_live}
 use Rattle.xv_model.specs.Outstanding.{outstanding, of_unit}
 use Rattle.xv_model.specs.Invariant.{IsViewOf, is_settled}
 use Rattle.xv_model.specs.Contents.{Contents, HoldsContents, unit_content}

@@ -1,7 +1,7 @@
 -- A unit's versions issued are those applied and those outstanding.
-use Rattle.std.specs.Prelude.{◌≡◌, ◌≤◌, ◌<◌, ℕ, zero, suc, ◌+◌, ◌-◌, ◌&&◌, nat_lt, not, Bool, true, false}
-use Rattle.std.proofs.Common.{arith, refl, ap, sym, ◌∙◌, inl, inr}
-use Rattle.std.proofs.lemmas.Bool.{cases_lt, and_parts, eqb-true, ltb-false, not-true, both_ways, le-ltb, and_right}
+use Rattle.std.specs.Prelude.{◌≡◌, ◌≤◌, ◌<◌, ℕ, zero, suc, ◌+◌, ◌-◌, nat_lt, not, true}
+use Rattle.std.proofs.Common.{arith, ap, ◌∙◌, inl, inr}
+use Rattle.std.proofs.lemmas.Bool.{cases_lt, and_parts, eqb-true, ltb-false, not-true, both_ways, le-ltb}
 use Rattle.xv_model.specs.Job.{Job}
 use Rattle.xv_model.specs.View.{View, UnitHead, number}
 use Rattle.xv_model.specs.Outstanding.{outstanding, of_unit, is_version}
