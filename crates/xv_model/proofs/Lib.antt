@@ -32,3 +32,6 @@ pub mod Bound
 pub mod Outside
 pub mod Journal
 pub mod Growth
+pub mod Ending
+pub mod Sums
+pub mod Plays

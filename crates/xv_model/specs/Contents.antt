@@ -126,19 +126,7 @@ moves job v Cancel c = give_up_moves c
 abbrev pub fault_moves : Event → Contents → Contents
 fault_moves (Guest g) c = c
 fault_moves (Release d) c = c
-fault_moves (Begin d) c = give_up_moves c
-fault_moves (Read d) c = give_up_moves c
-fault_moves (Advance d) c = give_up_moves c
-fault_moves Round c = give_up_moves c
-fault_moves Page c = give_up_moves c
-fault_moves (Send s) c = give_up_moves c
-fault_moves (Deliver s) c = give_up_moves c
-fault_moves Apply c = give_up_moves c
-fault_moves Ack c = give_up_moves c
-fault_moves Credit c = give_up_moves c
-fault_moves Stun c = give_up_moves c
-fault_moves Switch c = give_up_moves c
-fault_moves Cancel c = give_up_moves c
+fault_moves e c = give_up_moves c
 
 -- the contents after one step
 abbrev pub contents_by : Option Why → Bool → Job → View → Event → Contents → Contents

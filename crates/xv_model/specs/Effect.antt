@@ -162,23 +162,12 @@ effect job v Stun = stunned v
 effect job v Switch = switched v
 effect job v Cancel = given_up v Cancelled
 
--- the view after an event whose call on the outside failed
+-- The view after an event whose call on the outside failed: a guest's own call ends its operation, any other ends the
+-- migration. An event that makes no call does not fail (`breaks`).
 abbrev pub fault_effect : View → Event → View
 fault_effect v (Guest g) = ended_as v g.0 Faulted
 fault_effect v (Release d) = with_disk (ended_as v (front (disk v d)).guest.0 Faulted) d (front_gone (disk v d))
-fault_effect v (Begin d) = given_up v Failed
-fault_effect v (Read d) = given_up v Failed
-fault_effect v (Advance d) = given_up v Failed
-fault_effect v Round = given_up v Failed
-fault_effect v Page = given_up v Failed
-fault_effect v (Send s) = given_up v Failed
-fault_effect v (Deliver s) = given_up v Failed
-fault_effect v Apply = given_up v Failed
-fault_effect v Ack = given_up v Failed
-fault_effect v Credit = given_up v Failed
-fault_effect v Stun = given_up v Failed
-fault_effect v Switch = given_up v Failed
-fault_effect v Cancel = given_up v Failed
+fault_effect v e = given_up v Failed
 
 -- the answer of an event that went on
 abbrev pub note : ℕ → ℕ → Turn
@@ -211,15 +200,8 @@ answer job v Stun = note (members v.dirty) 0
 answer job v Switch = note 0 0
 answer job v Cancel = note 0 0
 
--- the answer of an event whose call on the outside failed; the events that make no call never give it
+-- The answer of an event whose call on the outside failed: of any call but a guest's own its cause.
 abbrev pub fault_answer : Event → Turn
-fault_answer (Guest g) = GuestFault
-fault_answer (Release d) = GuestFault
-fault_answer (Begin d) = GuestFault
-fault_answer (Advance d) = GuestFault
-fault_answer Round = GuestFault
-fault_answer Stun = GuestFault
-fault_answer Cancel = GuestFault
 fault_answer (Read d) = Broke SourceRead
 fault_answer Page = Broke SourceRead
 fault_answer (Send s) = Broke (Put s)
@@ -228,3 +210,4 @@ fault_answer Apply = Broke DestWrite
 fault_answer Ack = Broke AckPut
 fault_answer Credit = Broke AckTake
 fault_answer Switch = Broke Flush
+fault_answer e = GuestFault

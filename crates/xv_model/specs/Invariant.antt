@@ -1,4 +1,4 @@
--- The view invariant: twelve points that every view of every run meets, and a thirteenth on what the lists hold.
+-- The view invariant: fourteen points that every view of every run meets; the last is on what the lists hold.
 use Rattle.std.specs.Prelude.{◌≡◌, ◌≤◌, ◌<◌, ℕ, ◌+◌, ◌-◌, max, ◌==◌, ◌&&◌, ◌||◌, not, nat_lt, Bool, true, false, List, [], ◌∷◌, length, sum, Option, Some, None, get_or, if◌then◌else◌}
 use Rattle.xv_base.specs.declared.limits.TheConstants.{SINGLE_FORMAT, GROUP_FORMAT}
 use Rattle.xv_model.specs.Job.{Job, Shape, UnitOp, units, unit_count, is_page, disk_of, block_of, blocks, trace}
@@ -81,13 +81,14 @@ pub record CreditIsWhole (whole limit credit : ℕ) (on_way : Bag) (freed : ℕ)
   pub each_ack : (i : ℕ) → i < length acks → 1 ≤ number acks i
   pub outbox_fits : length messages ≤ limit
 
--- 8. Regions lie in their disks, behind no cursor; rounds count what pages were sent.
+-- 8. Regions lie in their disks, behind no cursor.
 pub record RegionsFit (shape : Shape) (limit : ℕ) (phase : Phase) (disks : List Disk) : Type 0 where
   pub cursor_fits : (d : ℕ) → d < length disks → (get_or disks d no_disk).cursor + (get_or disks d no_disk).region ≤ blocks shape.disks d
   pub region_fits : (d : ℕ) → (get_or disks d no_disk).region ≤ limit
   pub read_fits : (d : ℕ) → (get_or disks d no_disk).got ≤ (get_or disks d no_disk).region
   pub only_running : (d : ℕ) → is_running phase ≡ false → (get_or disks d no_disk).region ≡ 0
 
+-- 9. Rounds count what pages were sent.
 pub record RoundsCount (pages format limit length_of_history : ℕ) (phase : Phase) (copied : Bool) (dirty to_send : List Bool) (rounds : ℕ) (issued : List ℕ) : Type 0 where
   pub apart : (page : ℕ) → member dirty page ≡ true → member to_send page ≡ false
   pub sendings : (page : ℕ) → page < pages → number issued page + (if member to_send page then 1 else 0) ≤ rounds + (if is_running phase then 0 else 1)
@@ -95,7 +96,7 @@ pub record RoundsCount (pages format limit length_of_history : ℕ) (phase : Pha
   pub beside : format ≡ GROUP_FORMAT → copied ≡ false → rounds + members dirty ≤ pages + length_of_history
   pub limited_beside : format ≡ GROUP_FORMAT → rounds ≤ max limit (pages + length_of_history)
 
--- 9. A guest waits in at most one queue, once, for its next write, and while the guest runs not for a block ahead.
+-- 10. A guest waits in at most one queue, once, for its next write, and while the guest runs not for a block ahead.
 abbrev pub waits_in : List Waiting → ℕ → ℕ
 waits_in [] guest = 0
 waits_in (w ∷ ws) guest = (if w.guest.0 == guest then 1 else 0) + waits_in ws guest
@@ -113,7 +114,7 @@ pub record QueuesWait (shape : Shape) (phase : Phase) (disks : List Disk) (next 
   pub to_write : (d i : ℕ) → i < length (get_or disks d no_disk).queue → writes_to (next (waiting_at disks d i).guest.0) (waiting_at disks d i).unit.0 ≡ true
   pub not_ahead : (d i : ℕ) → is_running phase ≡ true → i < length (get_or disks d no_disk).queue → block_of shape (waiting_at disks d i).unit.0 < (get_or disks d no_disk).cursor + (get_or disks d no_disk).region
 
--- 10. The history is legal; the mark is its length while the guest runs or is stunned; the stun is at the mark.
+-- 11. The history is legal; the mark is its length while the guest runs or is stunned; the stun is at the mark.
 pub record HistoryIsLegal (job : Job) (history : List Ended) (mark : ℕ) (phase : Phase) (stun : Option ℕ) : Type 0 where
   pub legal : (guest : ℕ) → ended history guest ≤ length (trace job guest)
   pub marked : is_live phase ≡ true → mark ≡ length history
@@ -121,7 +122,7 @@ pub record HistoryIsLegal (job : Job) (history : List Ended) (mark : ℕ) (phase
   pub not_stunned : is_running phase ≡ true → stun ≡ None
   pub at_mark : (n : ℕ) → stun ≡ Some n → n ≡ mark
 
--- 11. Once stunned, the disks are copied and nothing waits; once switched, nothing is to be sent and the credit is whole.
+-- 12. Once stunned, the disks are copied and nothing waits; once switched, nothing is to be sent and the credit is whole.
 pub record StunIsQuiet (whole : ℕ) (phase : Phase) (copied : Bool) (disks : List Disk) (dirty to_send : List Bool) (rounds : ℕ) (stun : Option ℕ) (mark : ℕ) (messages : List UnitHead) (credit : ℕ) : Type 0 where
   pub all_copied : (is_stunned phase || is_switched phase) ≡ true → copied ≡ true
   pub no_queue : (is_stunned phase || is_switched phase) ≡ true → queues_empty disks ≡ true
@@ -132,13 +133,13 @@ pub record StunIsQuiet (whole : ℕ) (phase : Phase) (copied : Bool) (disks : Li
   pub none_made : is_switched phase ≡ true → messages ≡ []
   pub credit_whole : is_switched phase ≡ true → credit ≡ whole
 
--- 12. A job with a cancel number never switches, does not pass that number, and stuns only at it.
+-- 13. A job with a cancel number never switches, does not pass that number, and stuns only at it.
 pub record CancelHolds (cancel : Option ℕ) (phase : Phase) (n : ℕ) : Type 0 where
   pub never_switched : (k : ℕ) → cancel ≡ Some k → is_switched phase ≡ false
   pub not_past : (k : ℕ) → cancel ≡ Some k → is_live phase ≡ true → n ≤ k
   pub stunned_at : (k : ℕ) → cancel ≡ Some k → is_stunned phase ≡ true → n ≡ k
 
--- 13. Every list has its length; a stream's groups are as the job's format has them; the first `at` is at most the mark.
+-- 14. Every list has its length; a stream's groups are as the job's format has them; the first `at` is at most the mark.
 abbrev pub is_good_group : Job → List UnitHead → Bool
 is_good_group job group = if job.format == SINGLE_FORMAT then length group == 1 else (nat_lt 0 (length group) && not (nat_lt job.group (length group)))
 

@@ -14,3 +14,4 @@ pub mod Journal
 pub mod Work
 pub mod Driver
 pub mod Worked
+pub mod Ending

@@ -18,6 +18,9 @@ pub mod AfterTheSwitch
 pub mod Groups
 pub mod RoundsBesideThePass
 pub mod RoundsPastTheLimit
+pub mod CancelledWithAQueue
+pub mod VersionsEverywhere
+pub mod RoomInTheOutbox
 use Rattle.std.specs.Prelude.{ℕ, List, Option, length, take}
 use Rattle.xv_model.specs.Job.{Job, UnitOp}
 use Rattle.xv_model.specs.View.{View}

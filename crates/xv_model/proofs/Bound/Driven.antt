@@ -21,10 +21,10 @@ use Rattle.xv_model.proofs.Finished.{driver_none}
 use Rattle.xv_model.proofs.Bound.Runs.{step-lowers, first-within, run-within}
 
 -- an answer that is no wait, and says whether the call failed
-record Tells (t : Turn) (failed : Bool) : Type 0 where
-  flagged : is_flagged t ≡ failed
-  goes : is_wait t ≡ false
-  same : same_turn t t ≡ true
+pub record Tells (t : Turn) (failed : Bool) : Type 0 where
+  pub flagged : is_flagged t ≡ failed
+  pub goes : is_wait t ≡ false
+  pub same : same_turn t t ≡ true
 
 tells-note : (a b : ℕ) → Tells (note a b) false
 tells-note a b = record { flagged = refl; goes = refl; same = and_from (a == a) (b == b) (eq-eqb a a refl) (eq-eqb b b refl) }
@@ -33,7 +33,7 @@ tells-if : (c failed : Bool) (s t : Turn) → Tells s failed → Tells t failed 
 tells-if true failed s t h k = h
 tells-if false failed s t h k = k
 
-tells-answer : (job : Job) (v : View) (e : Event) → Tells (answer job v e) false
+pub tells-answer : (job : Job) (v : View) (e : Event) → Tells (answer job v e) false
 tells-answer job v (Guest g) = tells-if (is_join (next_aim job v g.0)) false Queued _ (record { flagged = refl; goes = refl; same = refl }) (tells-note _ _)
 tells-answer job v (Begin d) = tells-note _ _
 tells-answer job v (Read d) = tells-note _ _
@@ -99,16 +99,16 @@ breaks-planned : (flag c : Bool) → (flag ≡ true → c ≡ true) → (flag &&
 breaks-planned true c h = h refl
 breaks-planned false c h = refl
 
-driven-flag : (job : Job) (v : View) (calls : List Call) (e : Event) → wait job v e false ≡ None → flag job v calls e ≡ is_planned job.faults calls (call job v e)
+pub driven-flag : (job : Job) (v : View) (calls : List Call) (e : Event) → wait job v e false ≡ None → flag job v calls e ≡ is_planned job.faults calls (call job v e)
 driven-flag job v calls e acts = ap (λ (w : Option Why). flag_by w job v calls e) acts
 
-driven-tells : (job : Job) (v : View) (calls : List Call) (e : Event) → wait job v e false ≡ None → Tells (turn job v e (flag job v calls e)) (flag job v calls e)
+pub driven-tells : (job : Job) (v : View) (calls : List Call) (e : Event) → wait job v e false ≡ None → Tells (turn job v e (flag job v calls e)) (flag job v calls e)
 driven-tells job v calls e acts =
     let f = flag job v calls e in
     let has_call : f ≡ true → is_call (call job v e) ≡ true = λ h. (and_parts (is_call (call job v e)) _ (sym (driven-flag job v calls e acts) ∙ h)).0 in
     subst (Tells (turn job v e f)) (breaks-planned f (is_call (call job v e)) has_call) (tells-by (wait job v e f) (breaks job v e f) job v e (goes_either job v e f acts))
 
-same_truth-same : (a b : Bool) → a ≡ b → same_truth a b ≡ true
+pub same_truth-same : (a b : Bool) → a ≡ b → same_truth a b ≡ true
 same_truth-same true b e = sym e
 same_truth-same false b e = ap not (sym e)
 
