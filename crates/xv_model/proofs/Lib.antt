@@ -30,3 +30,4 @@ pub mod NeverSwitched
 pub mod GoodJobs
 pub mod Bound
 pub mod Outside
+pub mod Story

@@ -11,4 +11,5 @@ pub mod Contents
 pub mod Outside
 pub mod Work
 pub mod Driver
+pub mod Story
 pub mod Worked

@@ -6,5 +6,6 @@ pub mod bound_laws;
 pub mod contents_laws;
 pub mod laws;
 pub mod outside_laws;
+pub mod story_laws;
 pub mod witnesses;
 pub mod worked;
