@@ -35,3 +35,4 @@ pub mod Growth
 pub mod Ending
 pub mod Sums
 pub mod Plays
+pub mod Story

@@ -13,5 +13,6 @@ pub mod Growth
 pub mod Journal
 pub mod Work
 pub mod Driver
+pub mod Story
 pub mod Worked
 pub mod Ending

@@ -11,5 +11,6 @@ pub mod laws;
 pub mod outside_laws;
 pub mod play_laws;
 pub mod sum_laws;
+pub mod story_laws;
 pub mod witnesses;
 pub mod worked;
