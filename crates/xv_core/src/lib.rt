@@ -8,12 +8,9 @@
 
 mod cancels;
 mod copying;
-mod counting_laws;
 mod ending;
 mod guest_waits;
 mod guests;
-mod keeping_laws;
-mod laws;
 mod migration;
 mod moving;
 mod moving_waits;
