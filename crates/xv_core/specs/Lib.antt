@@ -9,6 +9,7 @@ pub mod Rising
 pub mod Starting
 pub mod Kept
 pub mod Stepped
+pub mod Origin
 pub mod Keeping
 pub mod Beginning
 pub mod Settling

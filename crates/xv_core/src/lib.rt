@@ -14,6 +14,7 @@ mod guests;
 mod migration;
 mod moving;
 mod moving_waits;
+mod origin_laws;
 mod own_waits;
 mod rooms;
 mod rounds;
@@ -24,5 +25,6 @@ mod sums;
 mod telling;
 
 pub use migration::Migration;
+pub use origin_laws::{journals_are_short, origins_are_kept, views_are_stepped};
 pub use starting::Parts;
 pub use telling::fits;

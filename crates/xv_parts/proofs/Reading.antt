@@ -13,11 +13,12 @@ use Rattle.xv_core.specs.Stepped.{IsStep}
 use Rattle.xv_core.specs.Keeping.{IsKept, HoldsGuest, tells}
 use Rattle.xv_core.proofs.Stepped.ReadsBehind.{AddsOne, step-adds, reads-more}
 use Rattle.xv_parts.specs.Memory.{IsInMemory}
-use Rattle.xv_parts.proofs.Staying.{view-after, stays}
+use Rattle.xv_core.proofs.Stepped.After.{view-after}
+use Rattle.xv_parts.proofs.Staying.{stays}
 
 -- both devices tell what they hold, so they hold what the unmigrated guest's contents say
 pub holds : (m : Seen) → IsInMemory m → HoldsGuest m
-holds m h = h.kept.contents (ap (λ (b : Bool). b && tells m.dest) h.tells.source ∙ h.tells.dest)
+holds m h = h.kept.contents (ap (λ (b : Bool). b && tells m.dest) h.origin.tells.source ∙ h.origin.tells.dest)
 
 longer : (m n : Seen) (e : Event) (a : Turn) → IsStep m e a n → AddsOne (view_of m).history (view_of n).history
 longer m n e a s = subst (λ (v : View). AddsOne (view_of m).history v.history) (sym (view-after m n e a s)) (step-adds (job_of m.job) (view_of m) e (is_flagged a))
