@@ -10,7 +10,6 @@ ghost use Rattle.xv_core.specs.Beginning.{IsDeviceFor, BeginsWithJob, IsWireFor,
 
 use crate::migration::Migration;
 use crate::rooms::Rooms;
-use crate::telling::guests;
 use std::alloc::Global;
 use xv_base::Phase;
 use xv_dest::DestHalf;
@@ -67,7 +66,7 @@ impl<S: UnitDevice, T: UnitDevice, W: Wire> Migration<S, T, W> {
                 back,
             });
         };
-        match SourceHalf::new(alloc, &job.layout, &job.config, guests(&job), source) {
+        match SourceHalf::new(alloc, &job.layout, &job.config, job.guests(), source) {
             Ok(source) => Migration::with_source(alloc, job, rooms, source, dest, wires, back),
             Err(source) => Err(Parts {
                 job,

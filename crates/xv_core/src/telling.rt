@@ -11,12 +11,11 @@ ghost use Rattle.xv_job.specs.Written.{job_of};
 ghost use Rattle.xv_core.specs.Seen.{view_of};
 ghost use Rattle.xv_core.specs.Keeping.{IsKept};
 
-use crate::guest_waits::operations;
 use crate::migration::Migration;
 use crate::settling::is_live;
 use crate::starting::Parts;
 use crate::sums::{copied, issued_from, made_from, written};
-use xv_base::{Entry, Event, GuestId, Layout, MOST_GUESTS, Phase, Probe, Totals, UnitId};
+use xv_base::{Entry, Event, GuestId, Layout, Phase, Probe, Totals, UnitId};
 use xv_device::UnitDevice;
 use xv_guest::History;
 use xv_job::Job;
@@ -28,7 +27,7 @@ pub fn fits(job: &Job, event: Event) -> bool
     ensures { result ≡ fits (job_of job.now) event }
 {
     match event {
-        Event::Guest(guest) => usize::from(guest.0) < job.traces.len(),
+        Event::Guest(guest) => guest.0 < job.guests(),
         Event::Begin(disk) | Event::Read(disk) | Event::Advance(disk) | Event::Release(disk) => {
             disk < job.layout.disks()
         }
@@ -214,7 +213,7 @@ fn is_empty<S: UnitDevice>(source: &SourceHalf<S>, disk: u8) -> bool
 fn all_ended(job: &Job, history: &History) -> bool
     ensures { result ≡ all_ended_from 0 (job_of job.now).traces history.now.entries }
 {
-    for guest in 0..guests(job) {
+    for guest in 0..job.guests() {
         if !has_ended(job, history, guest) {
             return false;
         }
@@ -228,16 +227,7 @@ fn has_ended(job: &Job, history: &History, guest: u8) -> bool
     ensures { result ≡ nat_le (length (trace (job_of job.now) guest)) (ended history.now.entries guest) }
 {
     let guest = GuestId(guest);
-    operations(job, guest) <= history.ended(guest)
-}
-
-/// How many guests a job has.
-pub(crate) fn guests(job: &Job) -> u8
-    ensures exactly { result ≡ length (job_of job.now).traces }
-    ensures few { result ≤ MOST_GUESTS }
-{
-    let _ = job.operations();
-    job.traces.len() as u8
+    job.operations_of(guest) <= history.ended(guest)
 }
 
 /// The layout of both devices.
