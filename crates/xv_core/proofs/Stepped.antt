@@ -10,3 +10,4 @@ pub mod ReadsBehind
 pub mod TakesFind
 pub mod After
 pub mod Origins
+pub mod ReadOn

@@ -25,6 +25,8 @@ mod sums;
 mod telling;
 
 pub use migration::Migration;
-pub use origin_laws::{journals_are_short, origins_are_kept, views_are_stepped};
+pub use origin_laws::{
+    journals_are_short, origins_are_kept, reads_are_told_from_their_place, views_are_stepped,
+};
 pub use starting::Parts;
 pub use telling::fits;

@@ -1,5 +1,5 @@
 -- A migration comes from itself, from what a step was made of, and from what its origin comes from; and its journal is short.
-use Rattle.std.specs.Prelude.{◌≡◌, ◌≤◌, ◌<◌, ◌^◌, ℕ, nat_lt, ◌||◌, Bool, true, false, List, [], ◌∷◌, ◌++◌, length}
+use Rattle.std.specs.Prelude.{◌≡◌, ◌≤◌, ◌<◌, ◌^◌, ℕ, nat_lt, ◌||◌, Bool, false, List, [], ◌∷◌, ◌++◌, length}
 use Rattle.std.proofs.Common.{refl, sym, ap, ◌∙◌, arith, append_assoc, append-nil}
 use Rattle.std.proofs.lemmas.Bool.{or_parts, ltb-false, le-ltb}
 use Rattle.xv_model.specs.Job.{Job}
@@ -24,6 +24,8 @@ pub origin-same : (m : Seen) → HasOrigin m m
 origin-same m = record {
   since = [];
   journal = sym (append-nil m.journal);
+  read = [];
+  reads = sym (append-nil m.reads);
   rises = rises-refl m;
   takes_rise = takes-rise-refl m;
   unwritten = record { units = λ unit none. refl };
@@ -34,6 +36,8 @@ pub origin-step : (m n : Seen) (e : Event) (a : Turn) → IsStep m e a n → Has
 origin-step m n e a s = record {
   since = entry_of e a;
   journal = s.journal;
+  read = s.reads.bytes;
+  reads = s.reads.behind;
   rises = s.rises;
   takes_rise = s.takes_rise;
   unwritten = s.unwritten;
@@ -81,6 +85,8 @@ pub origin-over : (l m n : Seen) → HasOrigin l m → HasOrigin m n → HasOrig
 origin-over l m n h k = record {
   since = h.since ++ k.since;
   journal = k.journal ∙ ap (λ (es : List Entry). es ++ k.since) h.journal ∙ append_assoc l.journal h.since k.since;
+  read = h.read ++ k.read;
+  reads = k.reads ∙ ap (λ (bytes : List ℕ). bytes ++ k.read) h.reads ∙ append_assoc l.reads h.read k.read;
   rises = rises-over l m n h.rises k.rises;
   takes_rise = takes-rise-over l m n h.takes_rise k.takes_rise;
   unwritten = record { units = λ unit none. k.unwritten.units unit none ∙ h.unwritten.units unit (unwritten-before m n unit k none) };
