@@ -1,4 +1,5 @@
 pub mod Seen
+pub mod PartsSeen
 pub mod Calls
 pub mod State
 pub mod Happening
