@@ -8,4 +8,3 @@ pub mod OperationAnswers
 pub mod OperationWaits
 pub mod Turns
 pub mod ReleaseTurns
-pub mod TraceLengths

@@ -8,3 +8,6 @@ pub mod Causes
 pub mod DestKept
 pub mod ReadsBehind
 pub mod TakesFind
+pub mod After
+pub mod Origins
+pub mod ReadOn

@@ -8,18 +8,18 @@ use Rattle.xv_model.specs.Outside.{calls_of_kind, source_writes, dest_writes}
 use Rattle.xv_job.specs.Written.{job_of}
 use Rattle.xv_core.specs.Seen.{Seen, wire}
 
--- every number stood below 2^32 at the start, and rose by no more than the journal's calls
+-- every number stood below 2^62 at the start, and rose by no more than the journal's calls
 pub record CountsFit (m : Seen) : Type 0 where
-  pub source_writes : (unit : ℕ) → write_count m.source.told.writes unit < 2 ^ 32 + source_writes (job_of m.job) m.journal unit
-  pub dest_writes : (unit : ℕ) → write_count m.dest.told.writes unit < 2 ^ 32 + dest_writes (job_of m.job) m.journal unit
-  pub source_reads : IfSome m.source.told.counted (λ c. c.calls.reads < 2 ^ 32 + calls_of_kind (job_of m.job) m.journal SourceRead)
-  pub source_patches : IfSome m.source.told.counted (λ c. c.calls.writes < 2 ^ 32 + calls_of_kind (job_of m.job) m.journal SourceWrite)
-  pub source_flushes : IfSome m.source.told.counted (λ c. c.calls.flushes < 2 ^ 32)
-  pub dest_reads : IfSome m.dest.told.counted (λ c. c.calls.reads < 2 ^ 32 + calls_of_kind (job_of m.job) m.journal DestRead)
-  pub dest_patches : IfSome m.dest.told.counted (λ c. c.calls.writes < 2 ^ 32 + calls_of_kind (job_of m.job) m.journal DestWrite)
-  pub dest_flushes : IfSome m.dest.told.counted (λ c. c.calls.flushes < 2 ^ 32 + calls_of_kind (job_of m.job) m.journal DestFlush)
-  pub puts : (s : ℕ) → IfSome (wire m s).told.counted (λ c. c.puts < 2 ^ 32 + calls_of_kind (job_of m.job) m.journal (Put s))
-  pub back_puts : IfSome m.back.told.counted (λ c. c.puts < 2 ^ 32 + calls_of_kind (job_of m.job) m.journal AckPut)
+  pub source_writes : (unit : ℕ) → write_count m.source.told.writes unit < 2 ^ 62 + source_writes (job_of m.job) m.journal unit
+  pub dest_writes : (unit : ℕ) → write_count m.dest.told.writes unit < 2 ^ 62 + dest_writes (job_of m.job) m.journal unit
+  pub source_reads : IfSome m.source.told.counted (λ c. c.calls.reads < 2 ^ 62 + calls_of_kind (job_of m.job) m.journal SourceRead)
+  pub source_patches : IfSome m.source.told.counted (λ c. c.calls.writes < 2 ^ 62 + calls_of_kind (job_of m.job) m.journal SourceWrite)
+  pub source_flushes : IfSome m.source.told.counted (λ c. c.calls.flushes < 2 ^ 62)
+  pub dest_reads : IfSome m.dest.told.counted (λ c. c.calls.reads < 2 ^ 62 + calls_of_kind (job_of m.job) m.journal DestRead)
+  pub dest_patches : IfSome m.dest.told.counted (λ c. c.calls.writes < 2 ^ 62 + calls_of_kind (job_of m.job) m.journal DestWrite)
+  pub dest_flushes : IfSome m.dest.told.counted (λ c. c.calls.flushes < 2 ^ 62 + calls_of_kind (job_of m.job) m.journal DestFlush)
+  pub puts : (s : ℕ) → IfSome (wire m s).told.counted (λ c. c.puts < 2 ^ 62 + calls_of_kind (job_of m.job) m.journal (Put s))
+  pub back_puts : IfSome m.back.told.counted (λ c. c.puts < 2 ^ 62 + calls_of_kind (job_of m.job) m.journal AckPut)
 
 -- the calls of a journal that failed, from a view on
 abbrev pub failed_calls_from : Job → View → List Entry → List Call

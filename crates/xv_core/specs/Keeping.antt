@@ -1,12 +1,13 @@
 -- What every migration keeps, as contracts see it.
-use Rattle.std.specs.Prelude.{◌≡◌, ◌<◌, ℕ, ◌&&◌, Bool, true, List, [], ◌++◌, length, map, unwrap_or, is_some}
-use Rattle.std.specs.List.{list_all}
+use Rattle.std.specs.Prelude.{◌≡◌, ◌<◌, ℕ, ◌+◌, ◌&&◌, Bool, true, List, [], ◌++◌, length, map, unwrap_or, is_some}
+use Rattle.std.specs.List.{list_all, range_with_len}
 use Rattle.xv_frame.specs.Frame.{Message, AckFrame, message, all_spelled}
 use Rattle.xv_streams.specs.Carried.{frames_of}
 use Rattle.xv_model.specs.Job.{Job, IsGoodJob, unit_count}
 use Rattle.xv_model.specs.Guest.{reads}
-use Rattle.xv_model.specs.View.{View, UnitHead, is_live, stream}
+use Rattle.xv_model.specs.View.{View, UnitHead, disk, is_live, stream}
 use Rattle.xv_model.specs.Wait.{fits}
+use Rattle.xv_model.specs.Effect.{cursor_unit}
 use Rattle.xv_model.specs.Step.{is_run}
 use Rattle.xv_model.specs.Report.{source_content, dest_length, is_written}
 use Rattle.xv_model.specs.Guest.{content}
@@ -31,13 +32,20 @@ guest_message job v m = message m (message_content job v.history m)
 abbrev pub guest_messages : Job → View → ℕ → List (List Message)
 guest_messages job v s = map (map (guest_message job v)) (stream v s)
 
+-- the blocks read of a disk's region, as the unmigrated guest has them after the whole history
+abbrev pub guest_blocks : Job → View → ℕ → List (List ℕ)
+guest_blocks job v d = map (λ k. content job v.history (cursor_unit job v d + k) (length v.history)) (range_with_len 0 (disk v d).got)
+
 -- Where both devices tell what they hold: the source holds the whole history of the guest until the switchover, and
 -- afterwards that at the stun; the destination, of each unit that was written, the guest after its recorded beginning, and
--- after the switchover after all of it; the wires the spellings of messages that hold the guest after their own; and the
--- bytes read are the unmigrated guest's.
+-- after the switchover after all of it; each message, in the outbox, on a wire as its spelling, or held, the guest after its
+-- own beginning; the blocks read of a region the guest after all; and the bytes read are the unmigrated guest's.
 pub record HoldsGuest (m : Seen) : Type 0 where
   pub source : (unit : ℕ) → unit < unit_count (job_of m.job) → unit_content (told_contents m.source) unit ≡ source_content (job_of m.job) (view_of m) unit
   pub dest : (unit : ℕ) → unit < unit_count (job_of m.job) → is_written (view_of m) unit ≡ true → unit_content (told_contents m.dest) unit ≡ content (job_of m.job) (view_of m).history unit (dest_length (view_of m) unit)
+  pub regions : m.regions ≡ map (guest_blocks (job_of m.job) (view_of m)) (range_with_len 0 (length (job_of m.job).shape.disks))
+  pub outbox : m.outbox ≡ map (message_content (job_of m.job) (view_of m).history) (view_of m).outbox.messages
+  pub held : m.held ≡ map (message_content (job_of m.job) (view_of m).history) (view_of m).hold.held
   pub wires : (s : ℕ) → s < (job_of m.job).config.streams → (wire m s).gathered ++ (wire m s).told.transit ≡ all_spelled (frames_of (job_of m.job).format (guest_messages (job_of m.job) (view_of m) s))
   pub reads : m.reads ≡ reads (job_of m.job) (view_of m).history (length (view_of m).history)
 
@@ -54,6 +62,7 @@ pub record IsKept (m : Seen) : Type 0 where
   pub dest_layout : m.dest.told.shape ≡ (job_of m.job).shape
   pub way_back : m.back.gathered ++ m.back.told.transit ≡ all_spelled (map AckFrame (view_of m).acks)
   pub gathered : (s : ℕ) → is_live (view_of m).phase ≡ true → (wire m s).gathered ≡ []
+  pub gathered_back : is_live (view_of m).phase ≡ true → m.back.gathered ≡ []
   pub counts : CountsFit m
   pub caused : FlagsAreCaused m
   pub plans : FollowsPlans m

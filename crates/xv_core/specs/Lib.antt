@@ -1,4 +1,5 @@
 pub mod Seen
+pub mod PartsSeen
 pub mod Calls
 pub mod State
 pub mod Happening
@@ -9,6 +10,7 @@ pub mod Rising
 pub mod Starting
 pub mod Kept
 pub mod Stepped
+pub mod Origin
 pub mod Keeping
 pub mod Beginning
 pub mod Settling

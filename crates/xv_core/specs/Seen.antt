@@ -1,5 +1,5 @@
--- What contracts see of a migration: its job, its journal, the bytes that its guests have read, and what its devices and
--- wires tell. The view is the run of the journal.
+-- What contracts see of a migration: its job, its journal, the bytes that its guests have read, what it holds of the blocks
+-- and messages that are on their way, and what its devices and wires tell. The view is the run of the journal.
 use Rattle.std.specs.Prelude.{ℕ, List, [], get_or, None}
 use Rattle.xv_device.specs.Told.{Told as DeviceTold}
 use Rattle.xv_wire.specs.Told.{Told as WireTold}
@@ -18,10 +18,15 @@ pub record OnWire : Type 0 where
   pub told : WireTold
   pub faults : ℕ
 
+-- `regions` has for each disk the blocks read of its region; `outbox` and `held` have the contents of the messages that are
+-- not sent, and of those that have arrived and are not written
 pub record Seen : Type 0 where
   pub job : Written
   pub journal : List Entry
   pub reads : List ℕ
+  pub regions : List (List (List ℕ))
+  pub outbox : List (List ℕ)
+  pub held : List (List ℕ)
   pub source : OnDevice
   pub dest : OnDevice
   pub wires : List OnWire

@@ -7,15 +7,15 @@ use Rattle.xv_streams.specs.Streamed.{lane}
 use Rattle.xv_core.specs.Seen.{Seen, wire}
 use Rattle.xv_core.specs.State.{State}
 
--- every number that a device tells is below 2^32, and so is a wire's number of puts
+-- every number that a device tells is below 2^62, and so is a wire's number of puts
 pub record CountsLittle (told : DeviceTold) : Type 0 where
-  pub writes : (unit : ℕ) → write_count told.writes unit < 2 ^ 32
-  pub reads : IfSome told.counted (λ c. c.calls.reads < 2 ^ 32)
-  pub patches : IfSome told.counted (λ c. c.calls.writes < 2 ^ 32)
-  pub flushes : IfSome told.counted (λ c. c.calls.flushes < 2 ^ 32)
+  pub writes : (unit : ℕ) → write_count told.writes unit < 2 ^ 62
+  pub reads : IfSome told.counted (λ c. c.calls.reads < 2 ^ 62)
+  pub patches : IfSome told.counted (λ c. c.calls.writes < 2 ^ 62)
+  pub flushes : IfSome told.counted (λ c. c.calls.flushes < 2 ^ 62)
 
 abbrev pub PutsLittle : WireTold → Type 0
-PutsLittle told = IfSome told.counted (λ c. c.puts < 2 ^ 32)
+PutsLittle told = IfSome told.counted (λ c. c.puts < 2 ^ 62)
 
 pub record AllCountLittle (m : Seen) : Type 0 where
   pub source : CountsLittle m.source.told

@@ -40,6 +40,9 @@ pub record IsAsBefore (old new : Seen) : Type 0 where
   pub job : new.job ≡ old.job
   pub journal : new.journal ≡ old.journal
   pub reads : new.reads ≡ old.reads
+  pub regions : new.regions ≡ old.regions
+  pub outbox : new.outbox ≡ old.outbox
+  pub held : new.held ≡ old.held
   pub source : new.source ≡ old.source
   pub dest : new.dest ≡ old.dest
   pub wires : map told_by new.wires ≡ map told_by old.wires

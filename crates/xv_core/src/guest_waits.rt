@@ -1,7 +1,7 @@
 //! What the operations of the guests wait for.
 
 ghost use Rattle.std.specs.Prelude.{◌≡◌, ◌<◌, true, false, length, Some, IfSome, IsNone};
-ghost use Rattle.xv_model.specs.Job.{guest_count, trace};
+ghost use Rattle.xv_model.specs.Job.{guest_count};
 ghost use Rattle.xv_model.specs.Wait.{wait, cancel_due};
 ghost use Rattle.xv_base.specs.declared.event.Event.TheVariants.{Guest, Release};
 ghost use Rattle.xv_job.specs.Written.{job_of};
@@ -14,7 +14,6 @@ use crate::rounds::may_go_beside;
 use crate::settling::{is_live, is_running, is_stunned};
 use xv_base::{Event, GuestId, Why};
 use xv_device::UnitDevice;
-use xv_job::Job;
 use xv_wire::Wire;
 
 impl<S: UnitDevice, T: UnitDevice, W: Wire> Migration<S, T, W> {
@@ -58,7 +57,7 @@ impl<S: UnitDevice, T: UnitDevice, W: Wire> Migration<S, T, W> {
         ensures waits { IfSome result (λ why. wait (job_of self.now.job) (view_of self.now) (Guest guest) false ≡ Some why) }
         ensures lets { IsNone result → is_let (job_of self.now.job) (view_of self.now) (Guest guest) ≡ true }
     {
-        if operations(&self.job, guest) <= self.history.ended(guest) {
+        if self.job.operations_of(guest) <= self.history.ended(guest) {
             return Some(Why::TraceEnd);
         }
         if self.source.queued(guest) {
@@ -79,12 +78,4 @@ impl<S: UnitDevice, T: UnitDevice, W: Wire> Migration<S, T, W> {
     {
         reaches_cancel(&self.job, self.history.len()) && is_live(self.phase)
     }
-}
-
-/// How many unit operations a guest has.
-pub(crate) fn operations(job: &Job, guest: GuestId) -> u32
-    requires { guest.0 < guest_count (job_of job.now) }
-    ensures { result ≡ length (trace (job_of job.now) guest.0) }
-{
-    job.traces[guest.0 as usize].unit_ops()
 }

@@ -8,15 +8,13 @@
 
 mod cancels;
 mod copying;
-mod counting_laws;
 mod ending;
 mod guest_waits;
 mod guests;
-mod keeping_laws;
-mod laws;
 mod migration;
 mod moving;
 mod moving_waits;
+mod origin_laws;
 mod own_waits;
 mod rooms;
 mod rounds;
@@ -27,5 +25,8 @@ mod sums;
 mod telling;
 
 pub use migration::Migration;
+pub use origin_laws::{
+    journals_are_short, origins_are_kept, reads_are_told_from_their_place, views_are_stepped,
+};
 pub use starting::Parts;
 pub use telling::fits;

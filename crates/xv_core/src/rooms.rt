@@ -1,6 +1,6 @@
 //! The memory that a run needs, all of it taken before the run begins.
 
-ghost use Rattle.std.specs.Prelude.{◌≡◌, ◌≤◌, ◌*◌, ◌^◌, ℕ, [], length, sum_by, IfOk, IfSome, vec_capacity};
+ghost use Rattle.std.specs.Prelude.{◌≡◌, ◌≤◌, ◌^◌, [], length, sum_by, IfOk, IfSome, vec_capacity};
 ghost use Rattle.xv_trace.specs.Operations.{all_unit_operations};
 ghost use Rattle.xv_model.specs.Job.{IsGoodJob};
 ghost use Rattle.xv_job.specs.Written.{job_of};
@@ -31,12 +31,10 @@ impl Rooms {
         ensures reads { IfSome result (λ rooms. rooms.reads.items ≡ []) }
         ensures rooms { IfSome result (λ rooms. HasRooms job.now rooms.history.room (vec_capacity rooms.journal) (vec_capacity rooms.reads) (length rooms.read.items)) }
     {
-        let operations = job.operations();
-        let bound = 8 * (job.layout.units() + operations) + 80;
-        let Ok(history) = History::new(alloc, operations) else {
+        let Ok(history) = History::new(alloc, job.operations()) else {
             return None;
         };
-        let Ok(journal) = Vec::with_capacity(alloc, bound as usize) else {
+        let Ok(journal) = Vec::with_capacity(alloc, job.bound() as usize) else {
             return None;
         };
         let Ok(reads) = Vec::with_capacity(alloc, read_lengths(job) as usize) else {

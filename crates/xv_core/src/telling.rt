@@ -1,6 +1,6 @@
 //! What a migration tells.
 
-ghost use Rattle.std.specs.Prelude.{◌≡◌, ◌<◌, ◌≤◌, Some, None, length, map, nat_le, nat_lt, get_or, if◌then◌else◌};
+ghost use Rattle.std.specs.Prelude.{◌≡◌, ◌<◌, Some, None, length, map, nat_le, nat_lt, get_or, if◌then◌else◌};
 ghost use Rattle.xv_model.specs.Job.{unit_count, trace};
 ghost use Rattle.xv_model.specs.Guest.{ended};
 ghost use Rattle.xv_model.specs.View.{no_disk, number, is_empty, queues_empty};
@@ -9,14 +9,14 @@ ghost use Rattle.xv_model.specs.Report.{probe as probe_of, totals as totals_of};
 ghost use Rattle.xv_model.specs.Work.{is_finished, all_ended_from};
 ghost use Rattle.xv_job.specs.Written.{job_of};
 ghost use Rattle.xv_core.specs.Seen.{view_of};
+ghost use Rattle.xv_core.specs.PartsSeen.{bare};
 ghost use Rattle.xv_core.specs.Keeping.{IsKept};
 
-use crate::guest_waits::operations;
 use crate::migration::Migration;
 use crate::settling::is_live;
 use crate::starting::Parts;
 use crate::sums::{copied, issued_from, made_from, written};
-use xv_base::{Entry, Event, GuestId, Layout, MOST_GUESTS, Phase, Probe, Totals, UnitId};
+use xv_base::{Entry, Event, GuestId, Layout, Phase, Probe, Totals, UnitId};
 use xv_device::UnitDevice;
 use xv_guest::History;
 use xv_job::Job;
@@ -28,7 +28,7 @@ pub fn fits(job: &Job, event: Event) -> bool
     ensures { result ≡ fits (job_of job.now) event }
 {
     match event {
-        Event::Guest(guest) => usize::from(guest.0) < job.traces.len(),
+        Event::Guest(guest) => guest.0 < job.guests(),
         Event::Begin(disk) | Event::Read(disk) | Event::Advance(disk) | Event::Release(disk) => {
             disk < job.layout.disks()
         }
@@ -170,14 +170,10 @@ impl<S: UnitDevice, T: UnitDevice, W: Wire> Migration<S, T, W> {
     /// What it was made of, as it is now: the job, and the devices and wires with all that they tell and their faults.
     pub fn into_parts(self) -> Parts<S, T, W>
         ensures job { result.job ≡ self.job }
-        ensures source { S.told result.source ≡ self.source.told }
-        ensures source_faults { S.faults result.source ≡ self.source.faults }
-        ensures dest { T.told result.dest ≡ self.dest.told }
-        ensures dest_faults { T.faults result.dest ≡ self.dest.faults }
-        ensures wires { map W.told result.wires.items ≡ map (λ w. w.told) self.wires }
-        ensures wire_faults { map W.faults result.wires.items ≡ map (λ w. w.faults) self.wires }
-        ensures back { W.told result.back ≡ self.back.told }
-        ensures back_faults { W.faults result.back ≡ self.back.faults }
+        ensures source { result.source ≡ self.source }
+        ensures dest { result.dest ≡ self.dest }
+        ensures wires { result.wires ≡ map bare self.wires }
+        ensures back { result.back ≡ bare self.back }
     {
         Parts {
             job: self.job,
@@ -214,7 +210,7 @@ fn is_empty<S: UnitDevice>(source: &SourceHalf<S>, disk: u8) -> bool
 fn all_ended(job: &Job, history: &History) -> bool
     ensures { result ≡ all_ended_from 0 (job_of job.now).traces history.now.entries }
 {
-    for guest in 0..guests(job) {
+    for guest in 0..job.guests() {
         if !has_ended(job, history, guest) {
             return false;
         }
@@ -228,16 +224,7 @@ fn has_ended(job: &Job, history: &History, guest: u8) -> bool
     ensures { result ≡ nat_le (length (trace (job_of job.now) guest)) (ended history.now.entries guest) }
 {
     let guest = GuestId(guest);
-    operations(job, guest) <= history.ended(guest)
-}
-
-/// How many guests a job has.
-pub(crate) fn guests(job: &Job) -> u8
-    ensures exactly { result ≡ length (job_of job.now).traces }
-    ensures few { result ≤ MOST_GUESTS }
-{
-    let _ = job.operations();
-    job.traces.len() as u8
+    job.operations_of(guest) <= history.ended(guest)
 }
 
 /// The layout of both devices.

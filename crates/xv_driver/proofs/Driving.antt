@@ -1,27 +1,19 @@
 -- The driver's steps, one after another: what each leaves, and what all of them do.
-use Rattle.std.specs.Prelude.{◌≡◌, ◌≤◌, ◌<◌, ℕ, zero, suc, ◌+◌, ◌-◌, ◌^◌, ◌||◌, nat_lt, Bool, true, false, List, [], ◌∷◌, ◌++◌, length, Some, None, if◌then◌else◌}
+use Rattle.std.specs.Prelude.{◌≡◌, ◌≤◌, ◌<◌, ℕ, zero, suc, ◌+◌, ◌-◌, Bool, true, false, List, [], ◌∷◌, ◌++◌, length, Some, None, if◌then◌else◌}
 use Rattle.std.proofs.Common.{arith, refl, sym, ap, subst, ◌∙◌, append_assoc, append-nil, length-append, add-one, take}
 use Rattle.std.proofs.Math.Seq.{take-append_seam}
-use Rattle.std.proofs.lemmas.Bool.{or_parts, ltb-false, le-ltb}
-use Rattle.xv_base.proofs.Within.{good_within}
-use Rattle.xv_model.specs.Job.{Job, IsGoodJob}
-use Rattle.xv_model.specs.View.{View, number, is_switched}
 use Rattle.xv_model.specs.Wait.{Event, wait, fits}
 use Rattle.xv_model.specs.Effect.{Turn}
-use Rattle.xv_model.specs.Step.{Entry, step, turn, run, is_flagged, is_wait, entry_of}
+use Rattle.xv_model.specs.Step.{Entry, turn, is_flagged, is_wait, entry_of}
 use Rattle.xv_model.specs.Driver.{next_event}
-use Rattle.xv_model.specs.Report.{is_written}
 use Rattle.xv_model.specs.Work.{bound}
-use Rattle.xv_model.proofs.OneMore.{run-one}
 use Rattle.xv_model.proofs.Bound.Runs.{step-lowers, run-within}
-use Rattle.xv_model.proofs.Contents.Unwritten.{none-before, not_switched-before}
 use Rattle.xv_job.specs.Written.{Written, job_of}
 use Rattle.xv_core.specs.Seen.{Seen, view_of}
-use Rattle.xv_core.specs.Rising.{Rises, TakesRise}
-use Rattle.xv_core.specs.Stepped.{IsStep, KeepsUnwritten, TellsOn}
+use Rattle.xv_core.specs.Stepped.{IsStep}
+use Rattle.xv_core.specs.Origin.{HasOrigin}
 use Rattle.xv_core.specs.Keeping.{IsKept}
-use Rattle.xv_core.proofs.Counting.Rises.{rises-refl, rises-over}
-use Rattle.xv_core.proofs.Plans.Rise.{takes-rise-refl, takes-rise-over}
+use Rattle.xv_core.proofs.Stepped.Origins.{origin-same, origin-step, origin-over}
 use Rattle.xv_driver.specs.Driven.{IsDrivenStep, AreDriven}
 use Rattle.xv_driver.proofs.Goes.{goes-on}
 
@@ -37,12 +29,6 @@ entered m n e a s goes = s.journal ∙ ap (λ (es : List Entry). m.journal ++ es
 
 pub step-journal : (m n : Seen) (d : IsDrivenStep m n) → n.journal ≡ m.journal ++ entry d.event d.answer ∷ []
 step-journal m n d = entered m n d.event d.answer d.stepped d.goes_on
-
-pub step-view : (m n : Seen) (d : IsDrivenStep m n) → view_of n ≡ step (job_of m.job) (view_of m) d.event (is_flagged d.answer)
-step-view m n d =
-    ap (λ (w : Written). run (job_of w) n.journal) d.stepped.job
-    ∙ ap (run (job_of m.job)) (step-journal m n d)
-    ∙ run-one (job_of m.job) m.journal (entry d.event d.answer)
 
 -- what a step by an event that goes on leaves: one entry more, within the bound
 pub step-grows : (m n : Seen) (e : Event) (a : Turn) → wait (job_of m.job) (view_of m) e false ≡ None → IsStep m e a n → length n.journal ≡ length m.journal + 1
@@ -60,18 +46,6 @@ step-nears m n e a k fit acts s =
   where
     apart : (b c j i : ℕ) → b ≡ c → j ≡ i + 1 → i + 1 ≤ c → b - j < c - i
     apart b c j i same grew room = omega arith
-
--- the journal of every migration is within the bound, which is small
-pub journal-within : (m : Seen) → IsKept m → length m.journal ≤ bound (job_of m.job)
-journal-within m k = omega (arith, run-within (job_of m.job) m.journal k.good k.fitting k.is_run)
-
-bound-small : (job : Job) → IsGoodJob job → bound job < 2 ^ 32
-bound-small job good =
-    let units = (good_within job.shape good.machine).few_units in
-    omega (arith, units, good.operations)
-
-pub journal-small : (m : Seen) → IsKept m → length m.journal < 2 ^ 32
-journal-small m k = omega (arith, journal-within m k, bound-small (job_of m.job) k.good)
 
 -- a step by the driver's next event is a step of the driver
 pub step-driven : (m n : Seen) (e : Event) (a : Turn) → Some e ≡ next_event (job_of m.job) (view_of m) (length m.journal) → fits (job_of m.job) e ≡ true → wait (job_of m.job) (view_of m) e false ≡ None → IsStep m e a n → IsKept n → IsDrivenStep m n
@@ -117,50 +91,7 @@ driven-before k m n h =
     let later = driven-journal k m n h in
     ap (λ (es : List Entry). take (length m.journal) es) later.1 ∙ take-append_seam m.journal later.0
 
--- all that is counted rises by the calls of all steps
-pub driven-rises : (k : ℕ) (m n : Seen) → AreDriven k m n → Rises m n
-driven-rises zero m n h = subst (Rises m) (sym h) (rises-refl m)
-driven-rises (suc k) m n h = rises-over m h.0 n h.1.0.stepped.rises (driven-rises k h.0 n h.1.1)
-
-pub driven-takes : (k : ℕ) (m n : Seen) → AreDriven k m n → TakesRise m n
-driven-takes zero m n h = subst (TakesRise m) (sym h) (takes-rise-refl m)
-driven-takes (suc k) m n h = takes-rise-over m h.0 n h.1.0.stepped.takes_rise (driven-takes k h.0 n h.1.1)
-
--- what is not written in the end was not written before, and stays
-written-by : (job : Job) (v : View) (e : Event) (flag : Bool) (unit : ℕ) → is_written (step job v e flag) unit ≡ false → is_written v unit ≡ false
-written-by job v e flag unit h =
-    let w = step job v e flag in
-    let parts = or_parts (is_switched w.phase) (nat_lt 0 (number w.hold.applied unit)) h in
-    let no_more : number w.hold.applied unit ≤ 0 = ltb-false 0 (number w.hold.applied unit) parts.1 in
-    let none : number v.hold.applied unit ≡ 0 = none-before job v e flag unit (omega arith) in
-    let same : nat_lt 0 (number v.hold.applied unit) ≡ false = le-ltb 0 (number v.hold.applied unit) (omega arith) in
-    ap (λ (b : Bool). b || nat_lt 0 (number v.hold.applied unit)) (not_switched-before job v e flag parts.0) ∙ same
-
-unwritten-step : (m n : Seen) (unit : ℕ) → IsDrivenStep m n → is_written (view_of n) unit ≡ false → is_written (view_of m) unit ≡ false
-unwritten-step m n unit d h =
-    written-by (job_of m.job) (view_of m) d.event (is_flagged d.answer) unit (ap (λ (v : View). is_written v unit) (sym (step-view m n d)) ∙ h)
-
-unwritten-before : (k : ℕ) (m n : Seen) (unit : ℕ) → AreDriven k m n → is_written (view_of n) unit ≡ false → is_written (view_of m) unit ≡ false
-unwritten-before zero m n unit h none = ap (λ (s : Seen). is_written (view_of s) unit) (sym h) ∙ none
-unwritten-before (suc k) m n unit h none = unwritten-step m h.0 unit h.1.0 (unwritten-before k h.0 n unit h.1.1 none)
-
-pub driven-unwritten : (k : ℕ) (m n : Seen) → AreDriven k m n → KeepsUnwritten m n
-driven-unwritten zero m n h = subst (KeepsUnwritten m) (sym h) (record { units = λ unit none. refl })
-driven-unwritten (suc k) m n h = record {
-  units = λ unit none.
-      (driven-unwritten k h.0 n h.1.1).units unit none ∙ h.1.0.stepped.unwritten.units unit (unwritten-before k h.0 n unit h.1.1 none);
-}
-
--- the devices tell on
-pub driven-tells : (k : ℕ) (m n : Seen) → AreDriven k m n → TellsOn m n
-driven-tells zero m n h = subst (TellsOn m) (sym h) (record { source = refl; dest = refl; source_units = refl; dest_units = refl; wires = refl })
-driven-tells (suc k) m n h =
-    let later = driven-tells k h.0 n h.1.1 in
-    let first = h.1.0.stepped.tells in
-    record {
-      source = later.source ∙ first.source;
-      dest = later.dest ∙ first.dest;
-      source_units = later.source_units ∙ first.source_units;
-      dest_units = later.dest_units ∙ first.dest_units;
-      wires = later.wires ∙ first.wires;
-    }
+-- a driven migration comes from the one that was driven
+pub driven-origin : (k : ℕ) (m n : Seen) → AreDriven k m n → HasOrigin m n
+driven-origin zero m n h = subst (HasOrigin m) (sym h) (origin-same m)
+driven-origin (suc k) m n h = origin-over m h.0 n (origin-step m h.0 h.1.0.event h.1.0.answer h.1.0.stepped) (driven-origin k h.0 n h.1.1)

@@ -3,10 +3,9 @@
 ghost use Rattle.std.specs.Prelude.{◌≡◌, ◌≤◌, ◌+◌, true, length, take};
 ghost use Rattle.xv_model.specs.Work.{bound, is_finished};
 ghost use Rattle.xv_job.specs.Written.{job_of};
-ghost use Rattle.xv_core.specs.Seen.{view_of};
+ghost use Rattle.xv_core.specs.Seen.{Seen, view_of};
 ghost use Rattle.xv_core.specs.Keeping.{IsKept};
-ghost use Rattle.xv_core.specs.Rising.{Rises, TakesRise};
-ghost use Rattle.xv_core.specs.Stepped.{KeepsUnwritten, TellsOn};
+ghost use Rattle.xv_core.specs.Origin.{HasOrigin};
 ghost use Rattle.xv_driver.specs.Driven.{AreDriven};
 
 use crate::finding::next;
@@ -22,10 +21,7 @@ pub fn finish<S: UnitDevice, T: UnitDevice, W: Wire>(migration: &mut Migration<S
     ensures before { take (length migration.old.journal) migration.new.journal ≡ migration.old.journal }
     ensures driven { AreDriven result migration.old migration.new }
     ensures job { migration.new.job ≡ migration.old.job }
-    ensures rises { Rises migration.old migration.new }
-    ensures takes_rise { TakesRise migration.old migration.new }
-    ensures unwritten { KeepsUnwritten migration.old migration.new }
-    ensures tells { TellsOn migration.old migration.new }
+    ensures origin { (start : Seen) → HasOrigin start migration.old → HasOrigin start migration.new }
     ensures kept { IsKept migration.new }
 {
     let mut grown = 0;

@@ -2,7 +2,6 @@
 
 ghost use Rattle.std.specs.Prelude.{◌≡◌, ◌<◌, ◌≤◌, ◌*◌, ◌/◌, ◌%◌, length, get_or};
 ghost use Rattle.xv_base.specs.declared.event.Event.TheVariants.{Cancel};
-ghost use Rattle.xv_model.specs.Job.{guest_count};
 ghost use Rattle.xv_model.specs.Driver.{driver_events};
 ghost use Rattle.xv_job.specs.Written.{job_of};
 ghost use Rattle.xv_driver.specs.Order.{copy_events, round_events, end_events, later_events};
@@ -20,7 +19,7 @@ pub(crate) fn event_count(job: &Job) -> u8
     ensures exactly { result ≡ length (driver_events (job_of job.now)) }
     ensures some { 0 < result }
 {
-    guests(job) + 4 * job.layout.disks() + ROUNDS + 2 * job.config.streams + ENDS
+    job.guests() + 4 * job.layout.disks() + ROUNDS + 2 * job.config.streams + ENDS
 }
 
 /// The event of a number: the guests, each disk's copy, the rounds, the streams, the destination, and the ends.
@@ -28,7 +27,7 @@ pub(crate) fn event_at(job: &Job, index: u8) -> Event
     requires { index < length (driver_events (job_of job.now)) }
     ensures { result ≡ get_or (driver_events (job_of job.now)) index Cancel }
 {
-    let guests = guests(job);
+    let guests = job.guests();
     let copies = 4 * job.layout.disks();
     if index < guests {
         Event::Guest(GuestId(index))
@@ -37,16 +36,6 @@ pub(crate) fn event_at(job: &Job, index: u8) -> Event
     } else {
         later_event(job.config.streams, index - guests - copies)
     }
-}
-
-/// How many guests there are.
-fn guests(job: &Job) -> u8
-    ensures exactly { result ≡ guest_count (job_of job.now) }
-    ensures few { result ≤ 16 }
-{
-    // That there are few is told with their operations.
-    let _ = job.operations();
-    job.traces.len() as u8
 }
 
 /// The event of a number among the copies of all disks.

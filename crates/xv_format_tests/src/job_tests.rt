@@ -266,7 +266,7 @@ fn reads_every_line(rt: HostRuntime) -> Result<(), Fail> {
         [Fault::SourceRead(9), Fault::Put(1, 2)].as_slice()
     );
     assert_eq!(rt; job.init.len(), 2);
-    assert_eq!(rt; job.traces.len(), 2);
+    assert_eq!(rt; job.guests(), 2);
     assert_eq!(rt; job.operations(), 5);
     Ok(())
 }

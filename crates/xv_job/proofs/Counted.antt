@@ -1,14 +1,16 @@
 -- The traces of a job: how many unit operations they have, and which.
 use Rattle.std.proofs.Common.{◌≡◌, ℕ, zero, suc, ◌+◌, ◌^◌, ◌<◌, ◌≤◌, List, [], ◌∷◌, length, take, get_or, sum_by, refl, sym, ap, ◌∙◌, arith, inl, inr}
 use Rattle.std.proofs.lemmas.Bool.{cases_lt}
+use Rattle.std.proofs.lemmas.List.{length-map}
 use Rattle.std.proofs.lemmas.List.Sums.{sum_by-cons}
 use Rattle.xv_base.specs.Units.{Shape}
 use Rattle.xv_base.specs.declared.pattern.UnitOp.{UnitOp}
+use Rattle.xv_trace.specs.declared.op.Op.{Op}
 use Rattle.xv_trace.specs.Operations.{count_all, all_unit_operations, no_unit_op}
 use Rattle.xv_trace.specs.OpText.{Program}
 use Rattle.xv_trace.proofs.Counts.{length-all_unit_operations}
 use Rattle.xv_job.specs.Written.{Written, IsGoodWritten, AreTraces, job_of, ops_held}
-use Rattle.xv_model.specs.Job.{operation_count, operation, trace}
+use Rattle.xv_model.specs.Job.{guest_count, operation_count, operation, trace}
 use Rattle.xv_job.proofs.Legal.{traces_counted}
 use Rattle.xv_job.proofs.Backward.{trace_is}
 
@@ -80,3 +82,12 @@ unit_op_in w ts guest k t e a h is lt = omega (arith, ap length (trace_at w ts g
 
 pub unit_op_is : (w : Written) (ts : List Program) (guest k : ℕ) (t : Program) (op : UnitOp) → w.traces ≡ ops_held ts → AreTraces w.shape ts → guest < length ts → t ≡ get_or ts guest t → op ≡ get_or (all_unit_operations t.shape t.ops) k no_unit_op → op ≡ operation (job_of w) guest k
 unit_op_is w ts guest k t op e a h is o = o ∙ ap (λ (us : List UnitOp). get_or us k no_unit_op) (sym (trace_at w ts guest t e a h is))
+
+-- how many guests there are, and how many unit operations one of them has
+pub guests_held : (w : Written) (ts : List Program) → w.traces ≡ ops_held ts → guest_count (job_of w) ≡ length ts
+guests_held w ts e = length-map w.traces (all_unit_operations w.shape) ∙ ap (λ (xs : List (List Op)). length xs) e ∙ length-map ts (λ (t : Program). t.ops)
+
+pub operations_counted : (w : Written) (ts : List Program) (guest : ℕ) (t : Program) → w.traces ≡ ops_held ts → guest < length ts → t ≡ get_or ts guest t → count_all t.ops ≡ length (trace (job_of w) guest)
+operations_counted w ts guest t e there is =
+    let held : t.ops ≡ get_or w.traces guest [] = ap (λ (p : Program). p.ops) is ∙ sym (held_at ts guest t there) ∙ ap (λ (xs : List (List Op)). get_or xs guest []) (sym e) in
+    ap count_all held ∙ length-all_unit_operations w.shape (get_or w.traces guest []) ∙ ap (λ xs. length xs) (sym (trace_is w.shape w.traces guest))

@@ -1,7 +1,9 @@
 //! What a migration is asked to do.
 
-ghost use Rattle.std.specs.Prelude.{◌≡◌, ◌<◌, length};
-ghost use Rattle.xv_model.specs.Job.{IsGoodJob, operation_count, operation, trace};
+ghost use Rattle.std.specs.Prelude.{◌≡◌, ◌<◌, ◌≤◌, length};
+ghost use Rattle.xv_base.specs.declared.limits.TheConstants.{MOST_GUESTS};
+ghost use Rattle.xv_model.specs.Job.{guest_count, operation_count, operation, trace};
+ghost use Rattle.xv_model.specs.Work.{bound};
 ghost use Rattle.xv_job.specs.Written.{job_of, IsGoodWritten};
 
 use std::marker::Model;
@@ -42,6 +44,29 @@ impl Job {
             count += trace.unit_ops();
         }
         count
+    }
+
+    /// How many guests there are.
+    pub fn guests(&self) -> u8
+        ensures exactly { result ≡ guest_count (job_of self.now) }
+        ensures few { result ≤ MOST_GUESTS }
+    {
+        self.traces.len() as u8
+    }
+
+    /// How many unit operations a guest has.
+    pub fn operations_of(&self, guest: GuestId) -> u32
+        requires { guest.0 < guest_count (job_of self.now) }
+        ensures { result ≡ length (trace (job_of self.now) guest.0) }
+    {
+        self.traces[guest.0 as usize].unit_ops()
+    }
+
+    /// How many entries the journal of a run has at most.
+    pub fn bound(&self) -> u32
+        ensures { result ≡ bound (job_of self.now) }
+    {
+        8 * (self.layout.units() + self.operations()) + 80
     }
 
     /// A guest's unit operation number k, from 0; it takes time in the logarithm of the guest's operations.

@@ -14,7 +14,7 @@ use Rattle.xv_model.specs.Effect.{Turn}
 use Rattle.xv_model.specs.Step.{Entry, Call, NoCall, SourceRead, SourceWrite, DestRead, DestWrite, DestFlush, Put, Take, AckPut, AckTake, guest_call, call, same_call, is_call, step, turn, turn_by, is_flagged, same_turn, same_truth, is_run_from, fault_call, fault_number, is_planned, is_faithful_from}
 use Rattle.xv_core.specs.Plans.{follows_from}
 use Rattle.xv_parts.specs.Plans.{is_of_kind, numbers_of}
-use Rattle.xv_parts.proofs.Stepping.{plain-answer}
+use Rattle.xv_core.proofs.Stepped.After.{plain-answer}
 
 -- a number is listed of a kind exactly where the faults name that call of it
 listed-more : (here : Bool) (f : Fault) (fs : List Fault) (n : ℕ) (rest : Bool) → is_listed (map fault_number fs) n ≡ rest → is_listed (map fault_number (if here then f ∷ fs else fs)) n ≡ ((here && (fault_number f == n)) || rest)

@@ -19,7 +19,8 @@ use Rattle.xv_core.specs.Keeping.{IsKept}
 use Rattle.xv_parts.specs.Memory.{stream_begun, begun_in_memory, IsInMemory}
 use Rattle.xv_parts.proofs.Listed.{AllFollow, faithful-from}
 use Rattle.xv_parts.proofs.Stepping.{calls-after, planned-last, flag-is}
-use Rattle.xv_parts.proofs.Staying.{stays, view-after}
+use Rattle.xv_core.proofs.Stepped.After.{view-after}
+use Rattle.xv_parts.proofs.Staying.{stays}
 
 -- what began with no call counted has counted just the journal's, and follows its plan
 followed : {A : Type 0} (R : A → A → Type 0) (a : A) (o : Option A) (c : Call) (number : A → ℕ) (fails : A → List ℕ) (job : Job) (journal : List Entry) → BothTold R (Some a) o
@@ -41,27 +42,27 @@ module _ (m : Seen) (h : IsInMemory m) where
   job = job_of m.job
 
   puts-rise : (s : ℕ) → s < job.config.streams → BothTold (PutsRise job [] m.journal (Put s)) (stream_begun m.job s).told.counted (wire m s).told.counted
-  puts-rise s lt = subst (λ (w : OnWire). BothTold (PutsRise job [] m.journal (Put s)) w.told.counted (wire m s).told.counted) (stream-at m.job s lt) (h.rises.numbers.puts s)
+  puts-rise s lt = subst (λ (w : OnWire). BothTold (PutsRise job [] m.journal (Put s)) w.told.counted (wire m s).told.counted) (stream-at m.job s lt) (h.origin.rises.numbers.puts s)
 
   takes-rise : (s : ℕ) → s < job.config.streams → BothTold (MeetsRise job [] m.journal (Take s)) (stream_begun m.job s).told.counted (wire m s).told.counted
-  takes-rise s lt = subst (λ (w : OnWire). BothTold (MeetsRise job [] m.journal (Take s)) w.told.counted (wire m s).told.counted) (stream-at m.job s lt) (h.takes_rise.takes s)
+  takes-rise s lt = subst (λ (w : OnWire). BothTold (MeetsRise job [] m.journal (Take s)) w.told.counted (wire m s).told.counted) (stream-at m.job s lt) (h.origin.takes_rise.takes s)
 
   all-follow : AllFollow job (first_view job) [] m.journal
   all-follow NoCall fit some = absurd (cc)
   all-follow SourceRead fit some =
-      followed (SourceRises job [] m.journal) _ m.source.told.counted SourceRead (λ c. c.calls.reads) (λ c. c.plan.reads) job m.journal h.rises.numbers.source_calls
+      followed (SourceRises job [] m.journal) _ m.source.told.counted SourceRead (λ c. c.calls.reads) (λ c. c.plan.reads) job m.journal h.origin.rises.numbers.source_calls
       (λ c r. ap (λ p. p.reads) r.plan) (λ c r. risen c.calls.reads (calls_of_kind job m.journal SourceRead) r.reads) h.kept.plans.source_reads
   all-follow SourceWrite fit some =
-      followed (SourceRises job [] m.journal) _ m.source.told.counted SourceWrite (λ c. c.calls.writes) (λ c. c.plan.writes) job m.journal h.rises.numbers.source_calls
+      followed (SourceRises job [] m.journal) _ m.source.told.counted SourceWrite (λ c. c.calls.writes) (λ c. c.plan.writes) job m.journal h.origin.rises.numbers.source_calls
       (λ c r. ap (λ p. p.writes) r.plan) (λ c r. risen c.calls.writes (calls_of_kind job m.journal SourceWrite) r.patches) h.kept.plans.source_writes
   all-follow DestRead fit some =
-      followed (DestRises job [] m.journal) _ m.dest.told.counted DestRead (λ c. c.calls.reads) (λ c. c.plan.reads) job m.journal h.rises.numbers.dest_calls
+      followed (DestRises job [] m.journal) _ m.dest.told.counted DestRead (λ c. c.calls.reads) (λ c. c.plan.reads) job m.journal h.origin.rises.numbers.dest_calls
       (λ c r. ap (λ p. p.reads) r.plan) (λ c r. risen c.calls.reads (calls_of_kind job m.journal DestRead) r.reads) h.kept.plans.dest_reads
   all-follow DestWrite fit some =
-      followed (DestRises job [] m.journal) _ m.dest.told.counted DestWrite (λ c. c.calls.writes) (λ c. c.plan.writes) job m.journal h.rises.numbers.dest_calls
+      followed (DestRises job [] m.journal) _ m.dest.told.counted DestWrite (λ c. c.calls.writes) (λ c. c.plan.writes) job m.journal h.origin.rises.numbers.dest_calls
       (λ c r. ap (λ p. p.writes) r.plan) (λ c r. risen c.calls.writes (calls_of_kind job m.journal DestWrite) r.patches) h.kept.plans.dest_writes
   all-follow DestFlush fit some =
-      followed (DestRises job [] m.journal) _ m.dest.told.counted DestFlush (λ c. c.calls.flushes) (λ c. c.plan.flushes) job m.journal h.rises.numbers.dest_calls
+      followed (DestRises job [] m.journal) _ m.dest.told.counted DestFlush (λ c. c.calls.flushes) (λ c. c.plan.flushes) job m.journal h.origin.rises.numbers.dest_calls
       (λ c r. ap (λ p. p.flushes) r.plan) (λ c r. risen c.calls.flushes (calls_of_kind job m.journal DestFlush) r.flushes) h.kept.plans.flushes
   all-follow (Put s) fit some =
       followed (PutsRise job [] m.journal (Put s)) _ (wire m s).told.counted (Put s) (λ c. c.puts) (λ c. c.plan.puts) job m.journal (puts-rise s (ltb-true s job.config.streams fit))
@@ -70,10 +71,10 @@ module _ (m : Seen) (h : IsInMemory m) where
       followed (MeetsRise job [] m.journal (Take s)) _ (wire m s).told.counted (Take s) takes_met (λ c. c.plan.takes) job m.journal (takes-rise s (ltb-true s job.config.streams fit))
       (λ c r. ap (λ p. p.takes) r.plan) (λ c r. risen (takes_met c) (calls_of_kind job m.journal (Take s)) r.takes) (h.kept.plans.takes s)
   all-follow AckPut fit some =
-      followed (PutsRise job [] m.journal AckPut) _ m.back.told.counted AckPut (λ c. c.puts) (λ c. c.plan.puts) job m.journal h.rises.numbers.back_puts
+      followed (PutsRise job [] m.journal AckPut) _ m.back.told.counted AckPut (λ c. c.puts) (λ c. c.plan.puts) job m.journal h.origin.rises.numbers.back_puts
       (λ c r. ap (λ p. p.puts) r.plan) (λ c r. risen c.puts (calls_of_kind job m.journal AckPut) r.puts) h.kept.plans.back_puts
   all-follow AckTake fit some =
-      followed (MeetsRise job [] m.journal AckTake) _ m.back.told.counted AckTake takes_met (λ c. c.plan.takes) job m.journal h.takes_rise.back_takes
+      followed (MeetsRise job [] m.journal AckTake) _ m.back.told.counted AckTake takes_met (λ c. c.plan.takes) job m.journal h.origin.takes_rise.back_takes
       (λ c r. ap (λ p. p.takes) r.plan) (λ c r. risen (takes_met c) (calls_of_kind job m.journal AckTake) r.takes) h.kept.plans.back_takes
 
   pub faithful : is_faithful job m.journal ≡ true
@@ -91,12 +92,12 @@ module _ (m : Seen) (h : IsInMemory m) where
       ∙ all-told ws (λ s lt. each (suc s) (omega arith))
 
   wires-long : length m.wires ≡ job.config.streams
-  wires-long = h.tells.wires ∙ length-map-range_with_len (stream_begun m.job) 0 job.config.streams
+  wires-long = h.origin.tells.wires ∙ length-map-range_with_len (stream_begun m.job) 0 job.config.streams
 
   pub plans-told : tells_plans m ≡ true
   plans-told =
       let streams = all-told m.wires (λ s lt. told-some (PutsRise job [] m.journal (Put s)) _ (wire m s).told.counted (puts-rise s (omega (arith, wires-long)))) in
-      ap (λ (b : Bool). b && is_some m.back.told.counted) streams ∙ told-some (PutsRise job [] m.journal AckPut) _ m.back.told.counted h.rises.numbers.back_puts
+      ap (λ (b : Bool). b && is_some m.back.told.counted) streams ∙ told-some (PutsRise job [] m.journal AckPut) _ m.back.told.counted h.origin.rises.numbers.back_puts
 
 -- a step
 module _ (m n : Seen) (e : Event) (a : Turn) (h : IsInMemory m) (s : IsStep m e a n) (kept : IsKept n) where

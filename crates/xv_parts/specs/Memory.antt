@@ -9,8 +9,7 @@ use Rattle.xv_wire.specs.Memory.{Pipe, fresh as fresh_pipe, told as told_pipe}
 use Rattle.xv_job.specs.Written.{Written, job_of}
 use Rattle.xv_core.specs.Seen.{Seen, OnDevice, OnWire}
 use Rattle.xv_core.specs.Beginning.{stream_room, back_room, fresh_wire, begun}
-use Rattle.xv_core.specs.Rising.{Rises, TakesRise}
-use Rattle.xv_core.specs.Stepped.{KeepsUnwritten, TellsOn}
+use Rattle.xv_core.specs.Origin.{HasOrigin}
 use Rattle.xv_core.specs.Keeping.{IsKept}
 use Rattle.xv_parts.specs.Plans.{source_plan, dest_plan, stream_plan, back_plan}
 
@@ -41,7 +40,4 @@ begun_in_memory w =
 -- a migration that began so with its job, whatever has happened since
 pub record IsInMemory (m : Seen) : Type 0 where
   pub kept : IsKept m
-  pub rises : Rises (begun_in_memory m.job) m
-  pub takes_rise : TakesRise (begun_in_memory m.job) m
-  pub unwritten : KeepsUnwritten (begun_in_memory m.job) m
-  pub tells : TellsOn (begun_in_memory m.job) m
+  pub origin : HasOrigin (begun_in_memory m.job) m

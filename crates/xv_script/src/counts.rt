@@ -22,7 +22,7 @@ pub(crate) fn counts_of(job: &Job) -> Counts
     ensures few { (result.guests < 2 ^ 8) × (result.disks < 2 ^ 8) × (result.streams < 2 ^ 8) × (result.units < 2 ^ 32) }
 {
     Counts {
-        guests: job.traces.len() as u8,
+        guests: job.guests(),
         disks: job.layout.disks(),
         streams: job.config.streams,
         units: job.layout.units(),

@@ -13,9 +13,9 @@ use Rattle.xv_report.specs.Texts.{report_text}
 use Rattle.xv_job.specs.Written.{Written, job_of}
 use Rattle.xv_job.specs.Made.{made_job}
 use Rattle.xv_core.specs.Seen.{Seen, view_of}
-use Rattle.xv_core.specs.Rising.{Rises, TakesRise}
-use Rattle.xv_core.specs.Stepped.{KeepsUnwritten, TellsOn}
+use Rattle.xv_core.specs.Origin.{HasOrigin}
 use Rattle.xv_core.specs.Keeping.{IsKept}
+use Rattle.xv_core.proofs.Stepped.Origins.{origin-same}
 use Rattle.xv_parts.specs.Memory.{IsInMemory, begun_in_memory}
 use Rattle.xv_parts.proofs.Planned.{faithful}
 use Rattle.xv_parts.proofs.Holding.{source-writes, dest-writes}
@@ -25,18 +25,12 @@ use Rattle.xv_driver.proofs.Switching.{ends-switched}
 use Rattle.xv_top.specs.Driven.{agree_line, agreed_text, driven_journal, drive_text, HasDriven, HasHandedOver}
 use Rattle.xv_top.proofs.Agreeing.{dest-guests}
 
--- a migration that began in memory, and rose from there, is in memory
-pub is-in-memory : (w : Written) (start m : Seen) → start ≡ begun_in_memory w → m.job ≡ start.job → IsKept m → Rises start m → TakesRise start m → KeepsUnwritten start m → TellsOn start m → IsInMemory m
-is-in-memory w start m is same kept rises takes unwritten tells =
+-- a migration that comes from one that began in memory is in memory
+pub is-in-memory : (w : Written) (start m : Seen) → start ≡ begun_in_memory w → m.job ≡ start.job → IsKept m → ((first : Seen) → HasOrigin first start → HasOrigin first m) → IsInMemory m
+is-in-memory w start m is same kept origin =
     let job : w ≡ m.job = sym (same ∙ ap (λ (s : Seen). s.job) is) in
     let first : start ≡ begun_in_memory m.job = is ∙ ap begun_in_memory job in
-    record {
-      kept = kept;
-      rises = subst (λ (s : Seen). Rises s m) first rises;
-      takes_rise = subst (λ (s : Seen). TakesRise s m) first takes;
-      unwritten = subst (λ (s : Seen). KeepsUnwritten s m) first unwritten;
-      tells = subst (λ (s : Seen). TellsOn s m) first tells;
-    }
+    record { kept = kept; origin = subst (λ (s : Seen). HasOrigin s m) first (origin start (origin-same start)) }
 
 journal-is : (w : Written) (start m : Seen) (k : ℕ) → start ≡ begun_in_memory w → m.job ≡ w → IsInMemory m → AreDriven k start m → is_finished (job_of m.job) (view_of m) ≡ true → m.journal ≡ driven_journal w
 unfolding driven_journal

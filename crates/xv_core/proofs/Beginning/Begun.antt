@@ -15,11 +15,11 @@ use Rattle.xv_streams.specs.Returned.{Returned, AreCarried}
 use Rattle.xv_source.specs.Half.{Source}
 use Rattle.xv_dest.specs.Half.{Dest}
 use Rattle.xv_job.specs.Written.{Written, job_of}
-use Rattle.xv_core.specs.Seen.{OnWire, no_wire}
-use Rattle.xv_core.specs.State.{State, state_of, seen_of, on_wire, on_back, ArePartsOf}
+use Rattle.xv_core.specs.Seen.{Seen, OnDevice, OnWire, no_wire}
+use Rattle.xv_core.specs.State.{State, state_of, seen_of, on_source, on_dest, on_wire, on_back, ArePartsOf}
 use Rattle.xv_core.specs.Starting.{PutsLittle, CountsNoPiece, IsIdle}
 use Rattle.xv_core.specs.Kept.{IsState}
-use Rattle.xv_core.specs.Beginning.{IsDeviceFor, IsWireFor, stream_room, fresh_wire}
+use Rattle.xv_core.specs.Beginning.{IsDeviceFor, IsWireFor, stream_room, fresh_wire, begun}
 use Rattle.xv_core.specs.Fresh.{IsFreshLane, AreFresh}
 use Rattle.xv_core.proofs.Beginning.KeepsStart.{AreEmpty, starts}
 use Rattle.xv_core.proofs.Counting.Start.{counts-begin, flags-begin, plans-begin, pieces-begin}
@@ -150,3 +150,29 @@ fresh-wires {W = W} told faults wires lanes e = ap (map on_wire) e ∙ each wire
 
 pub fresh-back : (told : WireTold) (faults : ℕ) (r : Returned) → r.gathered ≡ [] → r.wire ≡ told → r.faults ≡ faults → on_back r ≡ fresh_wire told faults
 fresh-back told faults r e f g = rw (e, f, g) refl
+
+-- and the whole as one that has just begun
+abbrev seen_as : Written → List Entry → List ℕ → List (List (List ℕ)) → List (List ℕ) → List (List ℕ) → OnDevice → OnDevice → List OnWire → OnWire → Seen
+seen_as job journal reads regions outbox held source dest wires back = record {
+  job = job;
+  journal = journal;
+  reads = reads;
+  regions = regions;
+  outbox = outbox;
+  held = held;
+  source = source;
+  dest = dest;
+  wires = wires;
+  back = back;
+}
+
+pub seen-begun : (job : Written) (journal : List Entry) (history : List Ended) (source : Source) (dest : Dest) (streams : Streamed) (back : Returned) (reads : List ℕ) →
+    journal ≡ [] → reads ≡ [] → AreFresh job source dest streams back →
+    seen_of (state_of job journal history Running None source dest streams back reads) ≡ begun job (on_source source) (on_dest dest) (map on_wire streams.lanes) (on_back back)
+seen-begun job journal history source dest streams back reads none_entered none_read f =
+    let wires = map on_wire streams.lanes in
+    let blocks : List (List (List ℕ)) = map (λ _. []) job.shape.disks in
+    ap (λ (es : List Entry). seen_as job es reads source.regions source.contents dest.contents (on_source source) (on_dest dest) wires (on_back back)) none_entered
+    ∙ ap (λ (bytes : List ℕ). seen_as job [] bytes source.regions source.contents dest.contents (on_source source) (on_dest dest) wires (on_back back)) none_read
+    ∙ ap (λ (h : Source). seen_as job [] [] h.regions h.contents dest.contents (on_source source) (on_dest dest) wires (on_back back)) f.source_half
+    ∙ ap (λ (h : Dest). seen_as job [] [] blocks [] h.contents (on_source source) (on_dest dest) wires (on_back back)) f.dest_half

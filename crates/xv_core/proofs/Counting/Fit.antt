@@ -64,14 +64,14 @@ counts-fit s t e a running h fit =
     let src = at-source s t e a h in
     let dst = at-dest s t e a h in
     record {
-      source_writes = λ u. below-most (write_count s.source.told.writes u) (write_count t.source.told.writes u) (2 ^ 32) _ _ _ (step-writes-most _ _ _ _ _ _ _ src u) (source-writes-more s t e a h u) (fit.source_writes u);
-      dest_writes = λ u. below-most (write_count s.dest.told.writes u) (write_count t.dest.told.writes u) (2 ^ 32) _ _ _ (step-writes-most _ _ _ _ _ _ _ dst u) (dest-writes-more s t e a h u) (fit.dest_writes u);
-      source_reads = device-fits _ _ _ _ _ _ _ src (λ c. c.calls.reads) (2 ^ 32) _ _ _ (λ c d ad. ad.reads) (kind-more s t e a h SourceRead) fit.source_reads;
-      source_patches = device-fits _ _ _ _ _ _ _ src (λ c. c.calls.writes) (2 ^ 32) _ _ _ (λ c d ad. ad.writes) (kind-more s t e a h SourceWrite) fit.source_patches;
-      source_flushes = carry (λ c. c.calls.flushes < 2 ^ 32) (λ c. c.calls.flushes < 2 ^ 32) (Added _ _ false) s.source.told.counted t.source.told.counted (step-adds _ _ _ _ _ _ _ src) fit.source_flushes (λ c d ad lt. below-same c.calls.flushes d.calls.flushes (2 ^ 32) ad.flushes lt);
-      dest_reads = device-fits _ _ _ _ _ _ _ dst (λ c. c.calls.reads) (2 ^ 32) _ _ _ (λ c d ad. ad.reads) (kind-more s t e a h DestRead) fit.dest_reads;
-      dest_patches = device-fits _ _ _ _ _ _ _ dst (λ c. c.calls.writes) (2 ^ 32) _ _ _ (λ c d ad. ad.writes) (kind-more s t e a h DestWrite) fit.dest_patches;
-      dest_flushes = device-fits _ _ _ _ _ _ _ dst (λ c. c.calls.flushes) (2 ^ 32) _ _ _ (λ c d ad. ad.flushes) (kind-more s t e a h DestFlush) fit.dest_flushes;
-      puts = λ k. wire-fits _ _ _ _ (wire (seen_of s) k) (wire (seen_of t) k) (at-wire s t e a h k) (2 ^ 32) _ _ (kind-more s t e a h (Put k)) (fit.puts k);
-      back_puts = wire-fits _ _ _ _ (on_back s.back) (on_back t.back) (at-back s t e a h) (2 ^ 32) _ _ (kind-more s t e a h AckPut) fit.back_puts;
+      source_writes = λ u. below-most (write_count s.source.told.writes u) (write_count t.source.told.writes u) (2 ^ 62) _ _ _ (step-writes-most _ _ _ _ _ _ _ src u) (source-writes-more s t e a h u) (fit.source_writes u);
+      dest_writes = λ u. below-most (write_count s.dest.told.writes u) (write_count t.dest.told.writes u) (2 ^ 62) _ _ _ (step-writes-most _ _ _ _ _ _ _ dst u) (dest-writes-more s t e a h u) (fit.dest_writes u);
+      source_reads = device-fits _ _ _ _ _ _ _ src (λ c. c.calls.reads) (2 ^ 62) _ _ _ (λ c d ad. ad.reads) (kind-more s t e a h SourceRead) fit.source_reads;
+      source_patches = device-fits _ _ _ _ _ _ _ src (λ c. c.calls.writes) (2 ^ 62) _ _ _ (λ c d ad. ad.writes) (kind-more s t e a h SourceWrite) fit.source_patches;
+      source_flushes = carry (λ c. c.calls.flushes < 2 ^ 62) (λ c. c.calls.flushes < 2 ^ 62) (Added _ _ false) s.source.told.counted t.source.told.counted (step-adds _ _ _ _ _ _ _ src) fit.source_flushes (λ c d ad lt. below-same c.calls.flushes d.calls.flushes (2 ^ 62) ad.flushes lt);
+      dest_reads = device-fits _ _ _ _ _ _ _ dst (λ c. c.calls.reads) (2 ^ 62) _ _ _ (λ c d ad. ad.reads) (kind-more s t e a h DestRead) fit.dest_reads;
+      dest_patches = device-fits _ _ _ _ _ _ _ dst (λ c. c.calls.writes) (2 ^ 62) _ _ _ (λ c d ad. ad.writes) (kind-more s t e a h DestWrite) fit.dest_patches;
+      dest_flushes = device-fits _ _ _ _ _ _ _ dst (λ c. c.calls.flushes) (2 ^ 62) _ _ _ (λ c d ad. ad.flushes) (kind-more s t e a h DestFlush) fit.dest_flushes;
+      puts = λ k. wire-fits _ _ _ _ (wire (seen_of s) k) (wire (seen_of t) k) (at-wire s t e a h k) (2 ^ 62) _ _ (kind-more s t e a h (Put k)) (fit.puts k);
+      back_puts = wire-fits _ _ _ _ (on_back s.back) (on_back t.back) (at-back s t e a h) (2 ^ 62) _ _ (kind-more s t e a h AckPut) fit.back_puts;
     }

@@ -48,20 +48,20 @@ pub few-dest-writes : (s : State) (unit : ℕ) → IsRunning s → dest_writes (
 few-dest-writes s unit r =
     omega (arith, count_by-le-length (is_dest_write unit) (calls_made (job_of s.job) s.journal), made-le (job_of s.job) (first_view (job_of s.job)) s.journal, short s r)
 
-far : (x n : ℕ) → x < 2 ^ 32 + n → n ≤ 16777296 → x < 2 ^ 63
+far : (x n : ℕ) → x < 2 ^ 62 + n → n ≤ 16777296 → x < 2 ^ 63
 far x n lt small =
-    let near : 2 ^ 32 ≡ 4294967296 = refl in
+    let near : 2 ^ 62 ≡ 4611686018427387904 = refl in
     let top : 2 ^ 63 ≡ 9223372036854775808 = refl in
     omega arith
 
 -- the counts of a device, where it tells them
 each-far : (o : Option DeviceCounted) (i j k : ℕ) → i ≤ 16777296 → j ≤ 16777296 → k ≤ 16777296 →
-    IfSome o (λ c. c.calls.reads < 2 ^ 32 + i) → IfSome o (λ c. c.calls.writes < 2 ^ 32 + j) → IfSome o (λ c. c.calls.flushes < 2 ^ 32 + k) →
+    IfSome o (λ c. c.calls.reads < 2 ^ 62 + i) → IfSome o (λ c. c.calls.writes < 2 ^ 62 + j) → IfSome o (λ c. c.calls.flushes < 2 ^ 62 + k) →
     IfSome o (λ c. (c.calls.reads < 2 ^ 63) × (c.calls.writes < 2 ^ 63) × (c.calls.flushes < 2 ^ 63))
 each-far None i j k few less least reads writes flushes = tt
 each-far (Some c) i j k few less least reads writes flushes = (far c.calls.reads i reads few, far c.calls.writes j writes less, far c.calls.flushes k flushes least)
 
-flushes-from : (o : Option DeviceCounted) → IfSome o (λ c. c.calls.flushes < 2 ^ 32) → IfSome o (λ c. c.calls.flushes < 2 ^ 32 + 0)
+flushes-from : (o : Option DeviceCounted) → IfSome o (λ c. c.calls.flushes < 2 ^ 62) → IfSome o (λ c. c.calls.flushes < 2 ^ 62 + 0)
 flushes-from None h = tt
 flushes-from (Some c) h = h
 
@@ -84,7 +84,7 @@ dest-countable s k =
     }
 
 -- and those of a wire
-puts-far : (o : Option WireCounted) (n : ℕ) → n ≤ 16777296 → IfSome o (λ c. c.puts < 2 ^ 32 + n) → IfSome o (λ c. c.puts < 2 ^ 63)
+puts-far : (o : Option WireCounted) (n : ℕ) → n ≤ 16777296 → IfSome o (λ c. c.puts < 2 ^ 62 + n) → IfSome o (λ c. c.puts < 2 ^ 63)
 puts-far None n few puts = tt
 puts-far (Some c) n few puts = far c.puts n puts few
 

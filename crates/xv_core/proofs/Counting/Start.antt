@@ -17,16 +17,16 @@ below n limit k h = omega arith
 
 pub counts-begin : (m : Seen) → AllCountLittle m → CountsFit m
 counts-begin m h = record {
-  source_writes = λ u. below _ (2 ^ 32) _ (h.source.writes u);
-  dest_writes = λ u. below _ (2 ^ 32) _ (h.dest.writes u);
-  source_reads = if-some (λ c. c.calls.reads < 2 ^ 32) (λ c. c.calls.reads < 2 ^ 32 + _) m.source.told.counted h.source.reads (λ c lt. below c.calls.reads (2 ^ 32) _ lt);
-  source_patches = if-some (λ c. c.calls.writes < 2 ^ 32) (λ c. c.calls.writes < 2 ^ 32 + _) m.source.told.counted h.source.patches (λ c lt. below c.calls.writes (2 ^ 32) _ lt);
+  source_writes = λ u. below _ (2 ^ 62) _ (h.source.writes u);
+  dest_writes = λ u. below _ (2 ^ 62) _ (h.dest.writes u);
+  source_reads = if-some (λ c. c.calls.reads < 2 ^ 62) (λ c. c.calls.reads < 2 ^ 62 + _) m.source.told.counted h.source.reads (λ c lt. below c.calls.reads (2 ^ 62) _ lt);
+  source_patches = if-some (λ c. c.calls.writes < 2 ^ 62) (λ c. c.calls.writes < 2 ^ 62 + _) m.source.told.counted h.source.patches (λ c lt. below c.calls.writes (2 ^ 62) _ lt);
   source_flushes = h.source.flushes;
-  dest_reads = if-some (λ c. c.calls.reads < 2 ^ 32) (λ c. c.calls.reads < 2 ^ 32 + _) m.dest.told.counted h.dest.reads (λ c lt. below c.calls.reads (2 ^ 32) _ lt);
-  dest_patches = if-some (λ c. c.calls.writes < 2 ^ 32) (λ c. c.calls.writes < 2 ^ 32 + _) m.dest.told.counted h.dest.patches (λ c lt. below c.calls.writes (2 ^ 32) _ lt);
-  dest_flushes = if-some (λ c. c.calls.flushes < 2 ^ 32) (λ c. c.calls.flushes < 2 ^ 32 + _) m.dest.told.counted h.dest.flushes (λ c lt. below c.calls.flushes (2 ^ 32) _ lt);
-  puts = λ s. if-some (λ c. c.puts < 2 ^ 32) (λ c. c.puts < 2 ^ 32 + _) (wire m s).told.counted (h.wires s) (λ c lt. below c.puts (2 ^ 32) _ lt);
-  back_puts = if-some (λ c. c.puts < 2 ^ 32) (λ c. c.puts < 2 ^ 32 + _) m.back.told.counted h.back (λ c lt. below c.puts (2 ^ 32) _ lt);
+  dest_reads = if-some (λ c. c.calls.reads < 2 ^ 62) (λ c. c.calls.reads < 2 ^ 62 + _) m.dest.told.counted h.dest.reads (λ c lt. below c.calls.reads (2 ^ 62) _ lt);
+  dest_patches = if-some (λ c. c.calls.writes < 2 ^ 62) (λ c. c.calls.writes < 2 ^ 62 + _) m.dest.told.counted h.dest.patches (λ c lt. below c.calls.writes (2 ^ 62) _ lt);
+  dest_flushes = if-some (λ c. c.calls.flushes < 2 ^ 62) (λ c. c.calls.flushes < 2 ^ 62 + _) m.dest.told.counted h.dest.flushes (λ c lt. below c.calls.flushes (2 ^ 62) _ lt);
+  puts = λ s. if-some (λ c. c.puts < 2 ^ 62) (λ c. c.puts < 2 ^ 62 + _) (wire m s).told.counted (h.wires s) (λ c lt. below c.puts (2 ^ 62) _ lt);
+  back_puts = if-some (λ c. c.puts < 2 ^ 62) (λ c. c.puts < 2 ^ 62 + _) m.back.told.counted h.back (λ c lt. below c.puts (2 ^ 62) _ lt);
 }
 
 pub flags-begin : (m : Seen) → m.journal ≡ [] → FlagsAreCaused m

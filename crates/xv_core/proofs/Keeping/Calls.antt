@@ -8,7 +8,7 @@ use Rattle.std.proofs.lemmas.List.{length-map, length-append, get_or_past}
 use Rattle.std.proofs.lemmas.List.Sums.{sum_by-cons}
 use Rattle.xv_base.specs.Units.{Shape}
 use Rattle.xv_base.specs.declared.limits.Config.{Config}
-use Rattle.xv_base.specs.declared.event.Event.TheVariants.{Send, Apply}
+use Rattle.xv_base.specs.declared.event.Event.TheVariants.{Apply}
 use Rattle.xv_frame.specs.Frame.{Message}
 use Rattle.xv_streams.specs.Streamed.{LaneSeen, no_lane, lane, first_group}
 use Rattle.xv_streams.specs.Carried.{most_bytes, joined}
@@ -17,19 +17,18 @@ use Rattle.xv_model.specs.Job.{Job, IsLegal, UnitOp, is_page, disk_of, trace, gu
 use Rattle.xv_model.specs.Guest.{ended, writes_to}
 use Rattle.xv_model.specs.View.{View, Disk, UnitHead, Waiting, no_disk, number, disk, front, front_group, is_ready, is_stunned, is_switched}
 use Rattle.xv_model.specs.Wait.{wait, next_operation}
-use Rattle.xv_model.specs.Effect.{batch}
 use Rattle.xv_model.specs.Contents.{front_operation}
 use Rattle.xv_model.specs.Outstanding.{any, count_groups, count_streams}
 use Rattle.xv_model.specs.Invariant.{IsViewOf}
 use Rattle.xv_job.specs.Written.{job_of}
-use Rattle.xv_source.specs.Step.{IsMost, batch_of}
+use Rattle.xv_source.specs.Step.{batch_of}
 use Rattle.xv_dest.specs.Half.{Dest, IsDestOf, CanTake, with_dest}
 use Rattle.xv_core.specs.State.{State, view, IsRunning}
 use Rattle.xv_model.proofs.Bags.{ready-on_the_way}
 use Rattle.xv_model.proofs.GoesOn.{apply_goes, queues_empty-queue}
 use Rattle.xv_model.proofs.Legal.{front_has_more}
 use Rattle.xv_model.proofs.Points.CreditSteps.{count-any}
-use Rattle.xv_model.proofs.Window.{send-fits, front-fits, front-above, front-once, front-not_held, credit-fits}
+use Rattle.xv_model.proofs.Window.{front-fits, front-above, front-once, front-not_held, credit-fits}
 use Rattle.xv_core.proofs.Keeping.Joined.{shows, is_dest_of, view-holds}
 
 -- the messages on one stream are among those on all
@@ -51,16 +50,10 @@ room-for-credit s k n r there few =
     let fits : length (joined (lane s.streams k).groups) + n ≤ job.config.credit = omega (arith, on_streams, few, (view-holds s r).credit.sums) in
     omega (arith, mul-le-mul_right (most_bytes job.shape job.format) fits, r.parts.wires_room k there)
 
-pub send-has-room : (s : State) (k : ℕ) → IsRunning s → wait (job_of s.job) (view s) (Send k) false ≡ None → k < (job_of s.job).config.streams → HasRoomFor (job_of s.job).shape (job_of s.job).format (batch (job_of s.job) (view s)) (lane s.streams k)
-send-has-room s k r goes there = room-for-credit s k (batch (job_of s.job) (view s)) r there (send-fits (job_of s.job) (view s) k false r.good (view-holds s r) goes).of_credit
-
 -- The same in the half's own numbers, whatever else a send waits for.
 batch-credit : (b : Bool) (most messages credit : ℕ) → 0 < credit → (if b then 1 else min most (min messages credit)) ≤ credit
 batch-credit true most messages credit some = omega arith
 batch-credit false most messages credit some = omega arith
-
-pub stream-there : (s : State) (k : ℕ) → IsRunning s → k < (job_of s.job).config.streams → k < length s.streams.lanes
-stream-there s k r there = omega (arith, r.parts.each_stream)
 
 pub source-has-room : (s : State) (k : ℕ) → IsRunning s → k < (job_of s.job).config.streams → 0 < s.source.credit → HasRoomFor s.source.shape s.streams.format (batch_of s.streams.format (job_of s.job).group s.source) (lane s.streams k)
 source-has-room s k r there some =
@@ -69,9 +62,6 @@ source-has-room s k r there some =
     let few : batch_of format most s.source ≤ (view s).credit = omega (arith, batch-credit (format == 1) most (length s.source.messages) s.source.credit some, (shows s r).credit) in
     subst (λ (shape : Shape). HasRoomFor shape format (batch_of format most s.source) (lane s.streams k)) (sym r.parts.source_shape)
     (subst (λ (f : ℕ). HasRoomFor (job_of s.job).shape f (batch_of format most s.source) (lane s.streams k)) (sym r.parts.streams_format) (room-for-credit s k (batch_of format most s.source) r there few))
-
-pub is-most : (s : State) → IsRunning s → IsMost s.streams.format (job_of s.job).group
-is-most s r = subst (λ (f : ℕ). IsMost f (job_of s.job).group) (sym r.parts.streams_format) r.good.formats
 
 -- The hold can take the front of each stream.
 front-heads : (groups : List (List Message)) → get_or (map heads_of groups) 0 [] ≡ heads_of (first_group groups)
@@ -99,15 +89,7 @@ takes-front job v h k inv is =
 pub can-take : (s : State) (k : ℕ) → IsRunning s → CanTake s.dest (heads_of (first_group (lane s.streams k).groups))
 can-take s k r = subst (CanTake s.dest) (front-group s k r) (takes-front (job_of s.job) (view s) s.dest k (view-holds s r) (is_dest_of s r))
 
--- What is written and not acknowledged is within the credit, and below it where anything is held.
-pub freed-within : (s : State) → IsRunning s → s.dest.freed ≤ (job_of s.job).config.credit
-freed-within s r = omega (arith, (shows s r).freed, (view-holds s r).credit.sums)
-
-pub freed-below : (s : State) → IsRunning s → 0 < length s.dest.held → s.dest.freed + 1 ≤ (job_of s.job).config.credit
-freed-below s r some =
-    let held : length (view s).hold.held ≡ length s.dest.held = ap (λ (ms : List UnitHead). length ms) (shows s r).held in
-    omega (arith, (shows s r).freed, (view-holds s r).credit.sums, count-any (view s).hold.held, held)
-
+-- Where a message is ready, what is written and not acknowledged is below the credit.
 pub ready-below : (s : State) → IsRunning s → is_ready (view s).hold ≡ true → s.dest.freed + 1 ≤ (job_of s.job).config.credit
 ready-below s r ready = omega (arith, (shows s r).freed, (view-holds s r).credit.sums, ready-on_the_way (view s) ready any refl)
 
@@ -209,22 +191,6 @@ waits-in-front s d r some =
       not_still = still-none job v d inv here;
     }
 
--- The halves and the streams have the job's layout, so that what holds in it holds in theirs.
-pub in-source : (s : State) (P : Shape → Type 0) → IsRunning s → P (job_of s.job).shape → P s.source.shape
-in-source s P r h = subst P (sym r.parts.source_shape) h
-
-pub in-dest : (s : State) (P : Shape → Type 0) → IsRunning s → P (job_of s.job).shape → P s.dest.shape
-in-dest s P r h = subst P (sym r.parts.dest_shape) h
-
-pub source-layout : (s : State) → IsRunning s → s.streams.shape ≡ s.source.shape
-source-layout s r = r.parts.streams_shape ∙ sym r.parts.source_shape
-
-pub dest-layout : (s : State) → IsRunning s → s.streams.shape ≡ s.dest.shape
-dest-layout s r = r.parts.streams_shape ∙ sym r.parts.dest_shape
-
 -- the disks and the guests of the job are those of the source
 pub disk-there : (s : State) (d : ℕ) → IsRunning s → d < length (job_of s.job).shape.disks → d < length s.source.disks
 disk-there s d r there = omega (arith, there, (view-holds s r).lists.disks, ap (λ (ds : List Disk). length ds) (shows s r).disks)
-
-pub guest-small : (s : State) (g : ℕ) → IsRunning s → g < guest_count (job_of s.job) → g < 16
-guest-small s g r there = omega (arith, there, r.good.guests.1)

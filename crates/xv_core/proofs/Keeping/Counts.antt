@@ -19,7 +19,6 @@ use Rattle.xv_source.specs.Step.{HasFewVersions}
 use Rattle.xv_core.specs.State.{State, view, IsRunning}
 use Rattle.xv_model.proofs.Bags.{issued-run-other}
 use Rattle.xv_model.proofs.Steps.{EffectsKeep, step_keeps}
-use Rattle.xv_model.proofs.Kept.{step-holds}
 use Rattle.xv_model.proofs.Bound.Guests.{waiting-fits}
 use Rattle.xv_model.proofs.Bound.Runs.{step-lowers, run-within}
 use Rattle.xv_core.proofs.Keeping.Joined.{shows, view-holds}
@@ -132,17 +131,8 @@ few-rounds s r = omega (arith, (shows s r).rounds, rounds-within (job_of s.job) 
 pub history-within : (s : State) → IsRunning s → length s.history ≤ operation_count (job_of s.job)
 history-within s r = omega (arith, ap (λ (h : List Ended). length h) (shows s r).history, waiting-fits (job_of s.job) (view s) (view-holds s r))
 
-pub short-history : (s : State) → IsRunning s → length s.history < 2 ^ 32 - 1
-short-history s r = omega (arith, history-within s r, r.good.operations)
-
 -- There is room for the next entry of the journal, and for the next one of the history.
 pub journal-has-room : (s : State) (e : Event) (flag : Bool) → IsRunning s → fits (job_of s.job) e ≡ true → is_wait (turn (job_of s.job) (view s) e flag) ≡ false → length s.journal + 1 ≤ bound (job_of s.job)
 journal-has-room s e flag r fit goes =
     let job = job_of s.job in
     omega (arith, run-within job s.journal r.good r.fitting r.is_run, step-lowers job (view s) e flag r.good fit (view-holds s r) goes)
-
-pub history-has-room : (s : State) (e : Event) (flag : Bool) → IsRunning s → fits (job_of s.job) e ≡ true → length (step (job_of s.job) (view s) e flag).history ≤ operation_count (job_of s.job)
-history-has-room s e flag r fit =
-    let job = job_of s.job in
-    let next = step job (view s) e flag in
-    omega (arith, waiting-fits job next (step-holds job (view s) e flag r.good fit (view-holds s r)))

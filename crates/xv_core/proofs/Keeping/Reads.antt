@@ -1,13 +1,12 @@
--- The bytes that guests have read are no more than their operations read together, and there is room for the next read.
-use Rattle.std.specs.Prelude.{◌≡◌, ◌≤◌, ◌<◌, ℕ, zero, suc, ◌+◌, ◌&&◌, Bool, true, false, List, [], ◌∷◌, length, take, drop, get_or, sum_by, is_none, is_some, unwrap_or, Option, Some, None, if◌then◌else◌}
+-- The bytes that guests have read are no more than their operations read together, and each unit's content has its size.
+use Rattle.std.specs.Prelude.{◌≡◌, ◌≤◌, ◌<◌, ℕ, zero, suc, ◌+◌, ◌&&◌, Bool, true, false, List, [], ◌∷◌, length, take, drop, get_or, sum_by, is_none, unwrap_or, Option, Some, None, if◌then◌else◌}
 use Rattle.std.proofs.Common.{arith, refl, ap, sym, subst, ◌∙◌, inl, inr, add-one}
 use Rattle.std.proofs.lemmas.Bool.{cases_eq, cases_Bool}
 use Rattle.std.proofs.lemmas.List.{length-append, length-take, length-drop, take_more, take_all}
-use Rattle.std.proofs.lemmas.List.Sums.{sum_by-cons, sum_by_more, sum_by_more_le, sum_by-take-le}
+use Rattle.std.proofs.lemmas.List.Sums.{sum_by-cons, sum_by_more, sum_by-take-le}
 use Rattle.xv_model.specs.Job.{Job, UnitOp, IsGoodJob, trace, operation, no_operation, guest_count, unit_count, size}
 use Rattle.xv_model.specs.Guest.{Ended, ended, entry, no_entry, is_done, operation_at, content, part, read_bytes, reads}
 use Rattle.xv_model.specs.View.{View, is_switched}
-use Rattle.xv_model.specs.Wait.{next_operation}
 use Rattle.xv_model.specs.Invariant.{IsViewOf}
 use Rattle.xv_job.specs.Written.{job_of}
 use Rattle.xv_core.specs.Reads.{read_length, read_lengths}
@@ -85,32 +84,9 @@ pub reads-fit : (job : Job) (h : List Ended) → LegalHistory job h → length (
 reads-fit job h legal =
     omega (arith, all-within job h legal, tally-le (guest_count job) (taken job h) (all_of job) (λ g. sum_by-take-le read_length (trace job g) (ended h g)), tally-traces job.traces)
 
--- There is room for what a guest's next operation reads.
-pub next-fits : (job : Job) (h : List Ended) (g : ℕ) → LegalHistory job h → ended h g < length (trace job g) → length (reads job h (length h)) + read_length (operation job g (ended h g)) ≤ read_lengths job
-next-fits job h g legal more =
-    let grown = tally-more (guest_count job) (taken job h) (all_of job) g (read_length (operation job g (ended h g))) (guest-there job g (omega (arith, more)))
-    (sum_by_more_le read_length (trace job g) (ended h g) no_operation more) (λ i. sum_by-take-le read_length (trace job i) (ended h i)) in
-    omega (arith, all-within job h legal, grown, tally-traces job.traces)
-
-read-len : (op : UnitOp) → is_some op.write ≡ false → read_length op ≡ op.len
-read-len op e = rw e refl
-
-pub next-read-fits : (job : Job) (h : List Ended) (g : ℕ) → LegalHistory job h → ended h g < length (trace job g) → is_some (operation job g (ended h g)).write ≡ false → length (reads job h (length h)) + (operation job g (ended h g)).len ≤ read_lengths job
-next-read-fits job h g legal more reads-it = omega (arith, next-fits job h g legal more, read-len (operation job g (ended h g)) reads-it)
-
--- The same of a running migration, and of what it has read where both devices tell what they hold.
+-- The same of a running migration.
 pub running-reads-fit : (s : State) → IsRunning s → length (reads (job_of s.job) (view s).history (length (view s).history)) ≤ read_lengths (job_of s.job)
 running-reads-fit s r = reads-fit (job_of s.job) (view s).history (view-holds s r).history.legal
-
-same-reads : (s : State) → IsRunning s → both_tell s ≡ true → length s.reads ≡ length (reads (job_of s.job) (view s).history (length (view s).history))
-same-reads s r both = ap (λ (bytes : List ℕ). length bytes) (r.contents both).reads_are
-
-pub told-reads-fit : (s : State) → IsRunning s → both_tell s ≡ true → length s.reads ≤ read_lengths (job_of s.job)
-told-reads-fit s r both = omega (arith, same-reads s r both, running-reads-fit s r)
-
-pub told-read-fits : (s : State) (g : ℕ) → IsRunning s → both_tell s ≡ true → ended (view s).history g < length (trace (job_of s.job) g) → is_some (next_operation (job_of s.job) (view s) g).write ≡ false → length s.reads + (next_operation (job_of s.job) (view s) g).len ≤ read_lengths (job_of s.job)
-told-read-fits s g r both more reads-it =
-    omega (arith, same-reads s r both, next-read-fits (job_of s.job) (view s).history g (view-holds s r).history.legal more reads-it)
 
 -- How many bytes an entry more adds to the reads: those of its operation, where that was done.
 part-length : (op : UnitOp) (bytes : List ℕ) → op.offset + op.len ≤ length bytes → length (part op bytes) ≡ op.len
@@ -131,7 +107,7 @@ length-reads-push job h e good legal more =
     let added : length bytes ≡ (if is_done e.outcome then read_length op else 0) = bytes-length (is_done e.outcome) (is_none op.write) op (content job h op.unit.0 (length h)) (omega (arith, is.in_unit, whole)) in
     omega (arith, ap (λ (bs : List ℕ). length bs) (reads-push_at job h e), length-append (reads job h (length h)) bytes, added)
 
--- Each unit's content has the unit's size: on the source, and on the destination once the guest is there.
+-- Each unit's content has the unit's size on the source.
 stun-within : (job : Job) (v : View) (stun : Option ℕ) → IsViewOf job v → v.stun ≡ stun → unwrap_or stun 0 ≤ length v.history
 stun-within job v None inv e = omega arith
 stun-within job v (Some n) inv e = omega (arith, inv.history.at_mark n e, inv.history.mark_within)
@@ -147,8 +123,3 @@ source-whole s unit r both there =
       | inl on ↦ ap (λ (bytes : List ℕ). length bytes) (holds.source_switched unit there on) ∙ sized (unwrap_or v.stun 0) (stun-within job v v.stun inv refl)
       | inr off ↦ ap (λ (bytes : List ℕ). length bytes) (holds.source_is unit there off) ∙ sized (length v.history) (omega arith)
     ]
-
-pub dest-whole : (s : State) (unit : ℕ) → IsRunning s → both_tell s ≡ true → unit < unit_count (job_of s.job) → is_switched (view s).phase ≡ true → length (get_or (unwrap_or s.dest.told.contents []) unit []) ≡ size (job_of s.job).shape unit
-dest-whole s unit r both there on =
-    ap (λ (bytes : List ℕ). length bytes) ((r.contents both).dest_switched unit there on)
-    ∙ length-content (job_of s.job) (view s).history unit (length (view s).history) r.good (view-holds s r).history.legal (omega arith)

@@ -1,13 +1,16 @@
 -- What a migration's parts keep, as contracts see it.
-use Rattle.std.specs.Prelude.{◌≡◌, ◌<◌, ℕ, zero, suc, ◌||◌, nat_lt, Bool, true, false, List, [], ◌∷◌, ◌++◌, length, map, get_or}
+use Rattle.std.specs.Prelude.{◌≡◌, ◌<◌, ℕ, zero, suc, ◌+◌, ◌||◌, nat_lt, Bool, true, false, List, [], ◌∷◌, ◌++◌, length, map, get_or}
+use Rattle.std.specs.List.{range_with_len}
 use Rattle.std.proofs.Common.{refl, sym, ap, subst, ◌∙◌, arith}
 use Rattle.std.proofs.lemmas.Bool.{ltb-true}
+use Rattle.std.proofs.lemmas.List.FromFn.{fill_by_all}
 use Rattle.xv_base.specs.declared.operation.UnitHead.{UnitHead}
 use Rattle.xv_frame.specs.Frame.{Message, AckFrame, Each, message, all_spelled}
 use Rattle.xv_model.specs.Job.{Job, unit_count}
 use Rattle.xv_model.specs.Guest.{content}
-use Rattle.xv_model.specs.View.{View, number, is_switched, is_live}
-use Rattle.xv_model.specs.Contents.{Contents, HoldsContents, unit_content, message_content}
+use Rattle.xv_model.specs.View.{View, number, disk, is_switched, is_live}
+use Rattle.xv_model.specs.Effect.{cursor_unit}
+use Rattle.xv_model.specs.Contents.{Contents, HoldsContents, unit_content, region_content, message_content}
 use Rattle.xv_model.specs.Report.{source_content, dest_length, is_written}
 use Rattle.xv_streams.specs.Streamed.{LaneSeen, lane, no_lane}
 use Rattle.xv_streams.specs.Carried.{frames_of, IsCarried}
@@ -16,7 +19,7 @@ use Rattle.xv_job.specs.Written.{job_of}
 use Rattle.xv_core.specs.Seen.{Seen, OnWire, wire}
 use Rattle.xv_core.specs.State.{State, seen_of, view, both_tell, contents_of}
 use Rattle.xv_core.specs.Kept.{IsState}
-use Rattle.xv_core.specs.Keeping.{IsKept, guest_message, guest_messages}
+use Rattle.xv_core.specs.Keeping.{IsKept, guest_message, guest_messages, guest_blocks}
 use Rattle.xv_core.proofs.Counting.Wires.{wire-is}
 use Rattle.xv_core.proofs.Keeping.Joined.{shows, view-holds}
 use Rattle.xv_core.proofs.Stepped.Stays.{all-carried}
@@ -68,6 +71,13 @@ dest-holds job v c h unit lt written = by (is_switched v.phase) refl
         let some : nat_lt 0 (number v.hold.applied unit) ≡ true = sym (ap (λ (b : Bool). b || nat_lt 0 (number v.hold.applied unit)) e) ∙ written in
         rw e (h.dest_is unit lt e (ltb-true 0 (number v.hold.applied unit) some))
 
+-- the blocks read of each region
+regions-hold : (job : Job) (v : View) (c : Contents) → length v.disks ≡ length job.shape.disks → HoldsContents job v c → c.regions ≡ map (guest_blocks job v) (range_with_len 0 (length job.shape.disks))
+regions-hold job v c disks h =
+    fill_by_all (guest_blocks job v) c.regions (length job.shape.disks) [] (h.regions_length ∙ disks) (λ d lt.
+    let there : d < length v.disks = omega (arith, disks) in
+    fill_by_all (λ (k : ℕ). content job v.history (cursor_unit job v d + k) (length v.history)) (region_content c d) (disk v d).got [] (h.region_length d there) (λ k got. h.region_is d k there got))
+
 -- what stands on a stream's wire
 wires-hold : (s : State) → IsState s → both_tell s ≡ true → (k : ℕ) → k < (job_of s.job).config.streams → (wire (seen_of s) k).gathered ++ (wire (seen_of s) k).told.transit ≡ all_spelled (frames_of (job_of s.job).format (guest_messages (job_of s.job) (view s) k))
 wires-hold s i both k lt =
@@ -96,6 +106,9 @@ kept-at s i =
       contents = λ both. record {
         source = source-holds job v (contents_of s) (i.running.contents both);
         dest = dest-holds job v (contents_of s) (i.running.contents both);
+        regions = regions-hold job v (contents_of s) (view-holds s i.running).lists.disks (i.running.contents both);
+        outbox = (i.running.contents both).outbox_is;
+        held = (i.running.contents both).held_is;
         wires = wires-hold s i both;
         reads = (i.running.contents both).reads_are;
       };
@@ -103,6 +116,7 @@ kept-at s i =
       dest_layout = i.running.parts.dest_layout;
       way_back = i.carried.back.stand ∙ ap (λ (counts : List ℕ). all_spelled (map AckFrame counts)) (sym (shows s i.running).acks);
       gathered = λ k live. ap (λ (w : OnWire). w.gathered) (wire-is s.streams.lanes k) ∙ i.pieces.gathered k (sym (ap is_live (shows s i.running).phase) ∙ live);
+      gathered_back = λ live. i.pieces.back_gathered (sym (ap is_live (shows s i.running).phase) ∙ live);
       counts = i.counts;
       caused = i.caused;
       plans = i.plans;

@@ -118,6 +118,9 @@ module _ (s : State) (x : Streamed) (y : Returned) (same : x ≡ record s.stream
     job = refl;
     journal = refl;
     reads = refl;
+    regions = refl;
+    outbox = refl;
+    held = refl;
     source = refl;
     dest = refl;
     wires = map-map x.lanes ∙ still-map (λ (l : LaneSeen). told_by (on_wire l)) wire-still s.streams.lanes x.lanes lanes ∙ sym (map-map s.streams.lanes);

@@ -166,8 +166,8 @@ module _ (s : State) (x : Streamed) (y : Returned) (same : x ≡ record s.stream
     dest_reads = c.dest_reads;
     dest_patches = c.dest_patches;
     dest_flushes = c.dest_flushes;
-    puts = λ k. subst (λ (w : WireTold). IfSome w.counted (λ c. c.puts < 2 ^ 32 + calls_of_kind (job_of s.job) s.journal (Put k))) (sym (told-same k)) (c.puts k);
-    back_puts = subst (λ (w : WireTold). IfSome w.counted (λ c. c.puts < 2 ^ 32 + calls_of_kind (job_of s.job) s.journal AckPut)) (sym back.wire) c.back_puts;
+    puts = λ k. subst (λ (w : WireTold). IfSome w.counted (λ c. c.puts < 2 ^ 62 + calls_of_kind (job_of s.job) s.journal (Put k))) (sym (told-same k)) (c.puts k);
+    back_puts = subst (λ (w : WireTold). IfSome w.counted (λ c. c.puts < 2 ^ 62 + calls_of_kind (job_of s.job) s.journal AckPut)) (sym back.wire) c.back_puts;
   }
 
   caused-more : (n a b : ℕ) → AreCaused n a → a ≤ b → AreCaused n b

@@ -1,6 +1,7 @@
 use Rattle.std.proofs.Common.{◌∙◌, arith}
 use Rattle.xv_core.specs.Keeping.{IsKept}
-use Rattle.xv_driver.proofs.Driving.{step-grows, step-nears, journal-within, journal-small, step-driven, driven-more, driven-before, driven-rises, driven-takes, driven-unwritten, driven-tells}
+use Rattle.xv_core.proofs.Stepped.Origins.{origin-over, journal-within, journal-small}
+use Rattle.xv_driver.proofs.Driving.{step-grows, step-nears, step-driven, driven-more, driven-before, driven-origin}
 use Rattle.xv_driver.proofs.finishing.finish.Goals as goal
 
 pub loop-event-preserved : goal.loop-event-preserved
@@ -38,9 +39,6 @@ returns g c =
       before = driven-before k m n driven;
       driven = driven;
       job = c.loop-event.invariant.job;
-      rises = driven-rises k m n driven;
-      takes_rise = driven-takes k m n driven;
-      unwritten = driven-unwritten k m n driven;
-      tells = driven-tells k m n driven;
+      origin = λ start h. origin-over start m n h (driven-origin k m n driven);
       kept = last.kept;
     }
