@@ -10,6 +10,7 @@ pub mod Starting
 pub mod Kept
 pub mod Stepped
 pub mod Keeping
+pub mod Losing
 pub mod Beginning
 pub mod Settling
 pub mod Fresh
