@@ -12,6 +12,7 @@ pub mod Kept
 pub mod Stepped
 pub mod Origin
 pub mod Keeping
+pub mod Losing
 pub mod Beginning
 pub mod Settling
 pub mod Fresh

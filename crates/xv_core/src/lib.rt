@@ -3,7 +3,8 @@
 // Contracts see a `Migration` as its job, its journal, the bytes that its guests have read, and what its devices and wires
 // tell; its view is the run of the journal. The layer above may rely on this: each step answers as the machine does, and
 // the type keeps that the journal is a run, the view invariant, where both devices tell what they hold the contents of all,
-// and that what is counted and planned agrees with the journal. All memory is taken at the start.
+// and that what is counted and planned agrees with the journal. So no write of a guest is lost, by what the journal tells
+// (`specs/Losing.antt`). All memory is taken at the start.
 #![tactic(auto)]
 
 mod cancels;
@@ -11,6 +12,9 @@ mod copying;
 mod ending;
 mod guest_waits;
 mod guests;
+mod keeping_laws;
+mod laws;
+mod losing_laws;
 mod migration;
 mod moving;
 mod moving_waits;

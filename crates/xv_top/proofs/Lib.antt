@@ -12,3 +12,4 @@ pub mod Agreeing
 pub mod Unmigrated
 pub mod Driven
 pub mod Complete
+pub mod Printed

@@ -7,3 +7,4 @@ pub mod Driven
 pub mod Handover
 pub mod Answers
 pub mod Flushed
+pub mod Printed

@@ -16,6 +16,7 @@ mod handover;
 mod input;
 mod output;
 mod playing;
+mod printing_laws;
 mod program;
 mod refusal;
 

@@ -22,10 +22,10 @@ pub record AddsOne (old new : List Ended) : Type 0 where
   pub longer : new ≡ old ++ added
   pub one : length added ≤ 1
 
-none-added : (h : List Ended) → AddsOne h h
+pub none-added : (h : List Ended) → AddsOne h h
 none-added h = record { added = []; longer = sym (append-nil h); one = omega arith }
 
-one-added : (h : List Ended) (e : Ended) → AddsOne h (h ++ e ∷ [])
+pub one-added : (h : List Ended) (e : Ended) → AddsOne h (h ++ e ∷ [])
 one-added h e = record { added = e ∷ []; longer = refl; one = omega arith }
 
 one-unless : (b : Bool) (h : List Ended) (e : Ended) → AddsOne h (if b then h else h ++ e ∷ [])

@@ -75,7 +75,7 @@ pub story-is : (job : Job) (journal : List Entry) → is_run job journal ≡ tru
 story-is job journal runs = ap (λ (s : Story). story_on job s journal) (first-story job) ∙ story-on job (first_view job) journal runs
 
 -- its parts
-written-in : (applied : List ℕ) (unit : ℕ) → get_or (map has_some applied) unit false ≡ nat_lt 0 (number applied unit)
+pub written-in : (applied : List ℕ) (unit : ℕ) → get_or (map has_some applied) unit false ≡ nat_lt 0 (number applied unit)
 written-in [] unit = refl
 written-in (n ∷ ns) zero = refl
 written-in (n ∷ ns) (suc unit) = written-in ns unit
