@@ -12,8 +12,6 @@ mod copying;
 mod ending;
 mod guest_waits;
 mod guests;
-mod keeping_laws;
-mod laws;
 mod losing_laws;
 mod migration;
 mod moving;
