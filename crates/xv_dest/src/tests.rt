@@ -9,7 +9,7 @@ ghost use Rattle.xv_dest.specs.Half.{fresh};
 use crate::DestHalf;
 use std::alloc::Global;
 use std::test::Fail;
-use xv_base::{Config, Layout, MOST_CREDIT, Note, Pattern, Turn, UnitHead, UnitId, UnitOp};
+use xv_base::{Config, Layout, MOST_CREDIT, Note, Pattern, Turn, UnitHead, UnitId, UnitOp, Why};
 use xv_device::{DevicePlan, MemDevice};
 use xv_streams::{BackWire, Streams};
 use xv_wire::{MemWire, WirePlan};
@@ -119,6 +119,33 @@ fn done(a: u32, b: u32) -> Turn {
     Turn::Done(Note { a, b })
 }
 
+/// The content of unit 1, empty where the device has no such unit.
+fn second_unit(device: &MemDevice) -> &[u8] {
+    if device.layout().units() < 2 {
+        return &[];
+    }
+    device.content(UnitId(1))
+}
+
+#[test]
+fn takes_and_writes_a_message(rt: HostRuntime) -> Result<(), Fail> {
+    let alloc = rt.alloc();
+    let layout = Layout::new(2, 16, &[])?;
+    let mut half = new_half(alloc, &layout)?;
+    let mut streams = one_sent(alloc, layout)?;
+    // All calls come before the first comparison, behind which the prover knows less of the half.
+    let came = half.deliver(0, &mut streams);
+    let ready = half.ready();
+    let written = applied(&mut half, 0);
+    assert_eq!(rt;
+        (came, ready, written),
+        (done(1, 1), true, Some(done(1, 1)))
+    );
+    assert!(rt; !half.ready());
+    assert_eq!(rt; second_unit(half.device()), b"aaaaaaaaaaaaaaaa".as_slice());
+    Ok(())
+}
+
 /// A half that has written one message.
 fn one_written(alloc: Global, layout: &Layout) -> Result<DestHalf<MemDevice>, Fail>
     requires { layout.now ≡ shape_of 2 16 [] }
@@ -144,13 +171,20 @@ fn acknowledges_what_was_written(rt: HostRuntime) -> Result<(), Fail> {
 }
 
 #[test]
-fn holds_versions_in_order(rt: HostRuntime) -> Result<(), Fail> {
+fn writes_versions_in_order(rt: HostRuntime) -> Result<(), Fail> {
     let alloc = rt.alloc();
     let layout = Layout::new(2, 16, &[])?;
     let mut half = new_half(alloc, &layout)?;
     let mut streams = two_sent(alloc, layout)?;
-    assert_eq!(rt; half.deliver(0, &mut streams), done(2, 1));
-    assert_eq!(rt; half.held(UnitId(1)), 2);
+    let came = half.deliver(0, &mut streams);
+    let held = half.held(UnitId(1));
+    let first = applied(&mut half, 0);
+    let second = applied(&mut half, 1);
+    let third = applied(&mut half, 2);
+    assert_eq!(rt; (came, held), (done(2, 1), 2));
+    assert_eq!(rt; (first, second), (Some(done(1, 1)), Some(done(1, 2))));
+    assert_eq!(rt; third, Some(Turn::Wait(Why::NothingThere)));
+    assert_eq!(rt; second_unit(half.device()), b"bbbbbbbbbbbbbbbb".as_slice());
     Ok(())
 }
 
