@@ -13,7 +13,5 @@ mod applying;
 mod delivering;
 mod dest;
 mod guests;
-#[cfg(test)]
-mod tests;
 
 pub use dest::DestHalf;

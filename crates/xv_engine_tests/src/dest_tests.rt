@@ -6,10 +6,10 @@ ghost use Rattle.xv_streams.specs.Streamed.{lane, first_group};
 ghost use Rattle.xv_streams.specs.Fronts.{heads_of};
 ghost use Rattle.xv_dest.specs.Half.{fresh};
 
-use crate::DestHalf;
 use std::alloc::Global;
 use std::test::Fail;
 use xv_base::{Config, Layout, MOST_CREDIT, Note, Pattern, Turn, UnitHead, UnitId, UnitOp, Why};
+use xv_dest::DestHalf;
 use xv_device::{DevicePlan, MemDevice};
 use xv_streams::{BackWire, Streams};
 use xv_wire::{MemWire, WirePlan};
