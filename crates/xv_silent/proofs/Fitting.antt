@@ -29,7 +29,11 @@ module _ (w : Written) where
     same = are ∙ told-each (range_with_len 0 w.config.streams)
 
     pub wires-long : length wires ≡ w.config.streams
-    wires-long = sym (length-map wires told) ∙ ap (λ (ts : List Told). length ts) same ∙ length-map pipes told ∙ length-map-range_with_len (stream_pipe w) 0 w.config.streams
+    wires-long =
+        sym (length-map wires told)
+        ∙ ap (λ (ts : List Told). length ts) same
+        ∙ length-map pipes told
+        ∙ length-map-range_with_len (stream_pipe w) 0 w.config.streams
 
     all-told : All Fits (map told wires)
     all-told = subst (All Fits) (sym same) (All-map Fits told pipes (pipes-fit w pipes refl))

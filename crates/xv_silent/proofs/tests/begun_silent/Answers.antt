@@ -15,6 +15,8 @@ start-requires-clause-streams c =
 
 pub start-requires-clause-wires : goal.start-requires-clause-wires
 start-requires-clause-wires c =
+    let wires = c.into_parts-job.result.wires.items in
     let are = c.into_parts-job.ensures.wires ∙ ap (λ (m : Seen). map (λ (x : OnWire). x.told) m.wires) c.in_ok-begun.ensures in
-    subst (λ (w : Written). All (λ (p : Pipe). IsWireFor (stream_room (job_of w)) (told p)) c.into_parts-job.result.wires.items) (sym c.into_parts-job.ensures.job)
-    (wires-fit c.in_ok-begun.field-0.job c.into_parts-job.result.wires.items are)
+    subst (λ (w : Written). All (λ (p : Pipe). IsWireFor (stream_room (job_of w)) (told p)) wires)
+    (sym c.into_parts-job.ensures.job)
+    (wires-fit c.in_ok-begun.field-0.job wires are)
