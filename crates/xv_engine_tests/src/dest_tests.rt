@@ -119,6 +119,14 @@ fn done(a: u32, b: u32) -> Turn {
     Turn::Done(Note { a, b })
 }
 
+/// What is told of unit 1: the version written last, and its `at`.
+fn last(half: &DestHalf<MemDevice>) -> (u32, Option<u64>)
+    requires { half.now.told.shape ≡ shape_of 2 16 [] }
+{
+    let _ = half.device();
+    (half.version(UnitId(1)), half.recorded(UnitId(1)))
+}
+
 /// The content of unit 1, empty where the device has no such unit.
 fn second_unit(device: &MemDevice) -> &[u8] {
     if device.layout().units() < 2 {
@@ -137,10 +145,12 @@ fn takes_and_writes_a_message(rt: HostRuntime) -> Result<(), Fail> {
     let came = half.deliver(0, &mut streams);
     let ready = half.ready();
     let written = applied(&mut half, 0);
+    let told = last(&half);
     assert_eq!(rt;
         (came, ready, written),
         (done(1, 1), true, Some(done(1, 1)))
     );
+    assert_eq!(rt; told, (1, Some(3)));
     assert!(rt; !half.ready());
     assert_eq!(rt; second_unit(half.device()), b"aaaaaaaaaaaaaaaa".as_slice());
     Ok(())
