@@ -2,3 +2,4 @@
 pub mod KeepsStart
 pub mod Begun
 pub mod InMemory
+pub mod Given

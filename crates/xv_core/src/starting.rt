@@ -6,11 +6,13 @@ ghost use Rattle.xv_source.specs.Limits.{fresh as fresh_source};
 ghost use Rattle.xv_dest.specs.Half.{fresh as fresh_dest};
 ghost use Rattle.xv_core.specs.Fresh.{IsReady, AreFresh};
 ghost use Rattle.xv_core.specs.State.{on_source, on_dest, on_wire, on_back};
-ghost use Rattle.xv_core.specs.Beginning.{IsDeviceFor, BeginsWithJob, IsWireFor, stream_room, back_room, fresh_wire, begun};
+ghost use Rattle.xv_core.specs.Beginning.{IsDeviceFor, BeginsWithJob, IsWireFor, AreFit, stream_room, back_room, fresh_wire, begun};
+ghost use Rattle.xv_core.specs.PartsSeen.{unread};
 
 use crate::migration::Migration;
 use crate::rooms::Rooms;
 use std::alloc::Global;
+use std::marker::Model;
 use xv_base::Phase;
 use xv_dest::DestHalf;
 use xv_device::UnitDevice;
@@ -22,7 +24,7 @@ use xv_wire::Wire;
 /// What a migration is made of: its job, the device that the guests leave and the one that they go to, a wire for each
 /// stream, and the wire back.
 #[derive(Drop)]
-pub struct Parts<S, T, W> {
+pub struct Parts<S: UnitDevice, T: UnitDevice, W: Wire> {
     pub job: Job,
     pub source: S,
     pub dest: T,
@@ -30,11 +32,36 @@ pub struct Parts<S, T, W> {
     pub back: W,
 }
 
+impl<S: UnitDevice, T: UnitDevice, W: Wire> Model for Parts<S, T, W> {
+    ghost use Rattle.std.specs.Prelude.{map};
+    ghost use Rattle.xv_core.specs.PartsSeen.{PartsSeen};
+
+    ghost Value = { PartsSeen };
+
+    ghost view = { λ p. record { job = p.job; source = record { told = S.told p.source; faults = S.faults p.source }; dest = record { told = T.told p.dest; faults = T.faults p.dest }; wires = map (λ w. record { told = W.told w; faults = W.faults w }) p.wires.items; back = record { told = W.told p.back; faults = W.faults p.back } } };
+}
+
 impl<S: UnitDevice, T: UnitDevice, W: Wire> Migration<S, T, W> {
-    /// A migration of this job over these devices and wires, in which nothing has happened. All memory that its run needs
-    /// is taken here, and no call of a device or a wire is made.
+    /// A migration of these parts, in which nothing has happened. All memory that its run needs is taken here, and no call of
+    /// a device or a wire is made.
     /// Errors: want of memory, which hands all back.
-    pub fn start(
+    pub fn start(alloc: Global, parts: Parts<S, T, W>) -> Result<Migration<S, T, W>, Parts<S, T, W>>
+        requires { AreFit parts }
+        ensures begun { IfOk result (λ migration. migration ≡ begun parts.job parts.source parts.dest (map unread parts.wires) (unread parts.back)) }
+        ensures again { IfErr result (λ again. again ≡ parts) }
+    {
+        Migration::with_parts(
+            alloc,
+            parts.job,
+            parts.source,
+            parts.dest,
+            parts.wires,
+            parts.back,
+        )
+    }
+
+    /// The same, of the parts one by one.
+    fn with_parts(
         alloc: Global,
         job: Job,
         source: S,
@@ -50,12 +77,10 @@ impl<S: UnitDevice, T: UnitDevice, W: Wire> Migration<S, T, W> {
         requires back { IsWireFor (back_room (job_of job)) (W.told back) }
         ensures begun { IfOk result (λ migration. migration ≡ begun job (record { told = S.told source; faults = S.faults source }) (record { told = T.told dest; faults = T.faults dest }) (map (λ w. fresh_wire (W.told w) (W.faults w)) wires.items) (fresh_wire (W.told back) (W.faults back))) }
         ensures job { IfErr result (λ parts. parts.job ≡ job) }
-        ensures source { IfErr result (λ parts. S.told parts.source ≡ S.told source) }
-        ensures source_faults { IfErr result (λ parts. S.faults parts.source ≡ S.faults source) }
-        ensures dest { IfErr result (λ parts. T.told parts.dest ≡ T.told dest) }
-        ensures dest_faults { IfErr result (λ parts. T.faults parts.dest ≡ T.faults dest) }
-        ensures wires { IfErr result (λ parts. parts.wires.items ≡ wires.items) }
-        ensures back { IfErr result (λ parts. parts.back ≡ back) }
+        ensures source { IfErr result (λ parts. parts.source ≡ record { told = S.told source; faults = S.faults source }) }
+        ensures dest { IfErr result (λ parts. parts.dest ≡ record { told = T.told dest; faults = T.faults dest }) }
+        ensures wires { IfErr result (λ parts. parts.wires ≡ map (λ w. record { told = W.told w; faults = W.faults w }) wires.items) }
+        ensures back { IfErr result (λ parts. parts.back ≡ record { told = W.told back; faults = W.faults back }) }
     {
         let Some(rooms) = Rooms::new(alloc, &job) else {
             return Err(Parts {
@@ -98,12 +123,10 @@ impl<S: UnitDevice, T: UnitDevice, W: Wire> Migration<S, T, W> {
         requires back { IsWireFor (back_room (job_of job)) (W.told back) }
         ensures begun { IfOk result (λ migration. migration ≡ begun job (on_source source) (record { told = T.told dest; faults = T.faults dest }) (map (λ w. fresh_wire (W.told w) (W.faults w)) wires.items) (fresh_wire (W.told back) (W.faults back))) }
         ensures job { IfErr result (λ parts. parts.job ≡ job) }
-        ensures source { IfErr result (λ parts. S.told parts.source ≡ source.told) }
-        ensures source_faults { IfErr result (λ parts. S.faults parts.source ≡ source.faults) }
-        ensures dest { IfErr result (λ parts. T.told parts.dest ≡ T.told dest) }
-        ensures dest_faults { IfErr result (λ parts. T.faults parts.dest ≡ T.faults dest) }
-        ensures wires { IfErr result (λ parts. parts.wires.items ≡ wires.items) }
-        ensures back { IfErr result (λ parts. parts.back ≡ back) }
+        ensures source { IfErr result (λ parts. parts.source ≡ on_source source) }
+        ensures dest { IfErr result (λ parts. parts.dest ≡ record { told = T.told dest; faults = T.faults dest }) }
+        ensures wires { IfErr result (λ parts. parts.wires ≡ map (λ w. record { told = W.told w; faults = W.faults w }) wires.items) }
+        ensures back { IfErr result (λ parts. parts.back ≡ record { told = W.told back; faults = W.faults back }) }
     {
         match DestHalf::new(alloc, &job.layout, &job.config, dest) {
             Ok(dest) => Migration::with_halves(alloc, job, rooms, source, dest, wires, back),
@@ -138,12 +161,10 @@ impl<S: UnitDevice, T: UnitDevice, W: Wire> Migration<S, T, W> {
         requires back { IsWireFor (back_room (job_of job)) (W.told back) }
         ensures begun { IfOk result (λ migration. migration ≡ begun job (on_source source) (on_dest dest) (map (λ w. fresh_wire (W.told w) (W.faults w)) wires.items) (fresh_wire (W.told back) (W.faults back))) }
         ensures job { IfErr result (λ parts. parts.job ≡ job) }
-        ensures source { IfErr result (λ parts. S.told parts.source ≡ source.told) }
-        ensures source_faults { IfErr result (λ parts. S.faults parts.source ≡ source.faults) }
-        ensures dest { IfErr result (λ parts. T.told parts.dest ≡ dest.told) }
-        ensures dest_faults { IfErr result (λ parts. T.faults parts.dest ≡ dest.faults) }
-        ensures wires { IfErr result (λ parts. parts.wires.items ≡ wires.items) }
-        ensures back { IfErr result (λ parts. parts.back ≡ back) }
+        ensures source { IfErr result (λ parts. parts.source ≡ on_source source) }
+        ensures dest { IfErr result (λ parts. parts.dest ≡ on_dest dest) }
+        ensures wires { IfErr result (λ parts. parts.wires ≡ map (λ w. record { told = W.told w; faults = W.faults w }) wires.items) }
+        ensures back { IfErr result (λ parts. parts.back ≡ record { told = W.told back; faults = W.faults back }) }
     {
         match Streams::new(alloc, wires, job.layout, job.format) {
             Ok(streams) => Ok(Migration::join(

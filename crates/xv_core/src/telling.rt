@@ -1,6 +1,6 @@
 //! What a migration tells.
 
-ghost use Rattle.std.specs.Prelude.{◌≡◌, ◌<◌, ◌≤◌, Some, None, length, map, nat_le, nat_lt, get_or, if◌then◌else◌};
+ghost use Rattle.std.specs.Prelude.{◌≡◌, ◌<◌, Some, None, length, map, nat_le, nat_lt, get_or, if◌then◌else◌};
 ghost use Rattle.xv_model.specs.Job.{unit_count, trace};
 ghost use Rattle.xv_model.specs.Guest.{ended};
 ghost use Rattle.xv_model.specs.View.{no_disk, number, is_empty, queues_empty};
@@ -9,6 +9,7 @@ ghost use Rattle.xv_model.specs.Report.{probe as probe_of, totals as totals_of};
 ghost use Rattle.xv_model.specs.Work.{is_finished, all_ended_from};
 ghost use Rattle.xv_job.specs.Written.{job_of};
 ghost use Rattle.xv_core.specs.Seen.{view_of};
+ghost use Rattle.xv_core.specs.PartsSeen.{bare};
 ghost use Rattle.xv_core.specs.Keeping.{IsKept};
 
 use crate::migration::Migration;
@@ -169,20 +170,17 @@ impl<S: UnitDevice, T: UnitDevice, W: Wire> Migration<S, T, W> {
     /// What it was made of, as it is now: the job, and the devices and wires with all that they tell and their faults.
     pub fn into_parts(self) -> Parts<S, T, W>
         ensures job { result.job ≡ self.job }
-        ensures source { S.told result.source ≡ self.source.told }
-        ensures source_faults { S.faults result.source ≡ self.source.faults }
-        ensures dest { T.told result.dest ≡ self.dest.told }
-        ensures dest_faults { T.faults result.dest ≡ self.dest.faults }
-        ensures wires { map W.told result.wires.items ≡ map (λ w. w.told) self.wires }
-        ensures wire_faults { map W.faults result.wires.items ≡ map (λ w. w.faults) self.wires }
-        ensures back { W.told result.back ≡ self.back.told }
-        ensures back_faults { W.faults result.back ≡ self.back.faults }
+        ensures source { result.source ≡ self.source }
+        ensures dest { result.dest ≡ self.dest }
+        ensures wires { result.wires ≡ map bare self.wires }
+        ensures back { result.back ≡ bare self.back }
     {
+        let wires = self.streams.into_wires();
         Parts {
             job: self.job,
             source: self.source.into_device(),
             dest: self.dest.into_device(),
-            wires: self.streams.into_wires(),
+            wires,
             back: self.back.into_wire(),
         }
     }

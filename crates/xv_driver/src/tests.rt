@@ -9,7 +9,7 @@ use crate::{finish, next};
 use std::alloc::Global;
 use std::test::Fail;
 use xv_base::{Event, Init, NoMemory, Phase, UnitId};
-use xv_core::Migration;
+use xv_core::{Migration, Parts};
 use xv_device::{DevicePlan, MemDevice};
 use xv_job::{Job, read_job};
 use xv_wire::{MemWire, WirePlan};
@@ -133,7 +133,14 @@ fn begun(alloc: Global, text: &[u8], fails: &[u32]) -> Result<Machine, Fail> {
     let dest = device(alloc, &job, &[], plan(alloc, fails)?)?;
     let wires = wires(alloc, &job)?;
     let back = wire(alloc, &job)?;
-    match Migration::start(alloc, job, source, dest, wires, back) {
+    let parts = Parts {
+        job,
+        source,
+        dest,
+        wires,
+        back,
+    };
+    match Migration::start(alloc, parts) {
         Ok(machine) => Ok(machine),
         Err(_parts) => Err(Fail::from(NoMemory)),
     }

@@ -12,7 +12,7 @@ ghost use Rattle.xv_parts.specs.Memory.{pipe_begun, stream_pipe, begun_in_memory
 use crate::plans::{back_plan, dest_plan, source_plan, stream_plan};
 use std::alloc::Global;
 use xv_base::{Init, NoMemory, SINGLE_FORMAT};
-use xv_core::Migration;
+use xv_core::{Migration, Parts};
 use xv_device::{DevicePlan, MemDevice};
 use xv_job::Job;
 use xv_wire::{LEAST_PUT, MemWire};
@@ -36,9 +36,16 @@ pub fn begin(alloc: Global, job: Job) -> Result<Machine, NoMemory>
 {
     let source = source(alloc, &job)?;
     let dest = dest(alloc, &job)?;
-    let streams = streams(alloc, &job)?;
+    let wires = streams(alloc, &job)?;
     let back = way_back(alloc, &job)?;
-    match Migration::start(alloc, job, source, dest, streams, back) {
+    let parts = Parts {
+        job,
+        source,
+        dest,
+        wires,
+        back,
+    };
+    match Migration::start(alloc, parts) {
         Ok(machine) => Ok(machine),
         Err(_parts) => Err(NoMemory),
     }

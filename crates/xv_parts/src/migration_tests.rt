@@ -10,7 +10,10 @@ use std::alloc::Global;
 use std::process::Abort;
 use std::test::Fail;
 use xv_base::{Event, GuestId, NoMemory, Note, Phase, Probe, Side, Totals, Turn, UnitId, Why};
+use xv_core::Migration;
+use xv_device::UnitDevice;
 use xv_job::Job;
+use xv_wire::Wire;
 
 /// An event that happens, and the two numbers that it answers.
 type Line = (Event, u32, u32);
@@ -262,9 +265,21 @@ fn compares(rt: &impl Abort, machine: &Machine, run: &Run) {
     assert_eq!(rt; can(machine, run.next), run.can);
 }
 
+/// What a thread may be given.
+fn sent<V: Send>(value: V) -> V {
+    value
+}
+
+/// A thread may be given a migration wherever it may be given its devices and wires.
+fn sent_whole<S: UnitDevice + Send, T: UnitDevice + Send, W: Wire + Send>(
+    machine: Migration<S, T, W>,
+) -> Migration<S, T, W> {
+    sent(machine)
+}
+
 /// The credit of its job, and the number of its wires, as it hands them out.
 fn handed_out(machine: Machine) -> (u32, usize) {
-    let parts = machine.into_parts();
+    let parts = sent_whole(machine).into_parts();
     (parts.job.config.credit, parts.wires.len())
 }
 

@@ -1,13 +1,13 @@
 //! What `replay_on` writes over wires that give few bytes a take, or many, and where the output has too little room. A start
 //! that is refused is made again from what it handed back.
 
-ghost use Rattle.std.specs.Prelude.{◌≡◌, ◌<◌, ◌≤◌, ℕ, true, [], length, get_or, All, IfOk, IfErr};
+ghost use Rattle.std.specs.Prelude.{◌≡◌, ◌<◌, ◌≤◌, ℕ, true, [], length, get_or, All, IfOk};
 ghost use Rattle.xv_base.specs.Units.{units};
 ghost use Rattle.xv_device.specs.Memory.{fresh, told as told_device, no_init};
 ghost use Rattle.xv_wire.specs.Memory.{told as told_wire};
 ghost use Rattle.xv_job.specs.Written.{job_of};
 ghost use Rattle.xv_script.specs.Script.{IsScriptOf};
-ghost use Rattle.xv_core.specs.Beginning.{IsDeviceFor, BeginsWithJob, IsWireFor, stream_room, back_room};
+ghost use Rattle.xv_core.specs.Beginning.{IsDeviceFor, IsWireFor, AreFit, stream_room, back_room};
 
 use crate::input::read_input;
 use crate::replay_on;
@@ -187,12 +187,7 @@ fn made(alloc: Global, job: Job, piece: u32) -> Result<Made, NoMemory>
     requires stream { stream_room (job_of job) ≤ 480 }
     requires back { back_room (job_of job) ≤ 480 }
     ensures job { IfOk result (λ made. made.job ≡ job) }
-    ensures source { IfOk result (λ made. IsDeviceFor (job_of made.job) (told_device made.source)) }
-    ensures first { IfOk result (λ made. BeginsWithJob (job_of made.job) (told_device made.source)) }
-    ensures dest { IfOk result (λ made. IsDeviceFor (job_of made.job) (told_device made.dest)) }
-    ensures streams { IfOk result (λ made. length made.wires.items ≡ made.job.config.streams) }
-    ensures wires { IfOk result (λ made. All (λ w. IsWireFor (stream_room (job_of made.job)) (told_wire w)) made.wires.items) }
-    ensures back { IfOk result (λ made. IsWireFor (back_room (job_of made.job)) (told_wire made.back)) }
+    ensures fit { IfOk result (λ made. AreFit made) }
 {
     let _ = job.operations();
     let source = device(alloc, &job, &job.init)?;
@@ -208,44 +203,14 @@ fn made(alloc: Global, job: Job, piece: u32) -> Result<Made, NoMemory>
     })
 }
 
-/// A migration of what is made, or for want of memory what was made.
-fn start(alloc: Global, made: Made) -> Result<Machine, Made>
-    requires source { IsDeviceFor (job_of made.job) (told_device made.source) }
-    requires first { BeginsWithJob (job_of made.job) (told_device made.source) }
-    requires dest { IsDeviceFor (job_of made.job) (told_device made.dest) }
-    requires streams { length made.wires.items ≡ made.job.config.streams }
-    requires wires { All (λ w. IsWireFor (stream_room (job_of made.job)) (told_wire w)) made.wires.items }
-    requires back { IsWireFor (back_room (job_of made.job)) (told_wire made.back) }
-    ensures begun { IfOk result (λ machine. machine.job ≡ made.job) }
-    ensures job { IfErr result (λ again. again.job ≡ made.job) }
-    ensures source { IfErr result (λ again. told_device again.source ≡ told_device made.source) }
-    ensures dest { IfErr result (λ again. told_device again.dest ≡ told_device made.dest) }
-    ensures wires { IfErr result (λ again. again.wires.items ≡ made.wires.items) }
-    ensures back { IfErr result (λ again. again.back ≡ made.back) }
-{
-    let Parts {
-        job,
-        source,
-        dest,
-        wires,
-        back,
-    } = made;
-    Migration::start(alloc, job, source, dest, wires, back)
-}
-
 /// Starts a migration, and where there is no memory for it, once more from what is handed back.
 fn started(alloc: Global, made: Made) -> Result<Machine, Made>
-    requires source { IsDeviceFor (job_of made.job) (told_device made.source) }
-    requires first { BeginsWithJob (job_of made.job) (told_device made.source) }
-    requires dest { IsDeviceFor (job_of made.job) (told_device made.dest) }
-    requires streams { length made.wires.items ≡ made.job.config.streams }
-    requires wires { All (λ w. IsWireFor (stream_room (job_of made.job)) (told_wire w)) made.wires.items }
-    requires back { IsWireFor (back_room (job_of made.job)) (told_wire made.back) }
+    requires { AreFit made }
     ensures { IfOk result (λ machine. machine.job ≡ made.job) }
 {
-    match start(alloc, made) {
+    match Migration::start(alloc, made) {
         Ok(machine) => Ok(machine),
-        Err(again) => start(alloc, again),
+        Err(again) => Migration::start(alloc, again),
     }
 }
 

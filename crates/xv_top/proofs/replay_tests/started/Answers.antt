@@ -1,11 +1,13 @@
-use Rattle.std.proofs.Common.{List, sym, subst}
-use Rattle.std.specs.Prelude.{All}
-use Rattle.xv_wire.specs.Memory.{Pipe, told}
-use Rattle.xv_job.specs.Written.{Written, job_of}
-use Rattle.xv_core.specs.Beginning.{IsWireFor, stream_room}
+use Rattle.std.proofs.Common.{◌≡◌, ap, sym, subst}
+use Rattle.std.specs.Prelude.{Result, Ok, Err, IfOk}
+use Rattle.xv_core.specs.Seen.{Seen}
+use Rattle.xv_core.specs.PartsSeen.{PartsSeen}
+use Rattle.xv_core.specs.Beginning.{AreFit}
 use Rattle.xv_top.proofs.replay_tests.started.Goals as goal
 
-pub start-requires-in-Err-clause-wires : goal.start-requires-in-Err-clause-wires
-start-requires-in-Err-clause-wires c =
-    subst (λ (ws : List Pipe). All (λ w. IsWireFor (stream_room (job_of c.in-Err.again.job)) (told w)) ws) (sym c.in-Err.ensures.wires)
-    (subst (λ (j : Written). All (λ w. IsWireFor (stream_room (job_of j)) (told w)) c.args.made.wires.items) (sym c.in-Err.ensures.job) c.requires.wires)
+job-kept : {E : Type 0} (found : Result Seen E) (p q : PartsSeen) (m : Seen) → p ≡ q → IfOk found (λ machine. machine ≡ m) → m.job ≡ p.job → IfOk found (λ machine. machine.job ≡ q.job)
+job-kept (Ok machine) p q m same is of_job = rw is (rw of_job (ap (λ (x : PartsSeen). x.job) same))
+job-kept (Err e) p q m same is of_job = tt
+
+pub start-requires-in-Err : goal.start-requires-in-Err
+start-requires-in-Err c = subst (λ (p : PartsSeen). AreFit p) (sym c.in-Err.ensures.again) c.requires
