@@ -1,10 +1,11 @@
 // The migration over any two devices and any wires: one event is one step.
 //
-// Contracts see a `Migration` as its job, its journal, the bytes that its guests have read, and what its devices and wires
-// tell; its view is the run of the journal. The layer above may rely on this: each step answers as the machine does, and
-// the type keeps that the journal is a run, the view invariant, where both devices tell what they hold the contents of all,
-// and that what is counted and planned agrees with the journal. So no write of a guest is lost, by what the journal tells
-// (`specs/Losing.antt`). All memory is taken at the start.
+// Contracts see a `Migration` as its job, its journal, the bytes that its guests have read, the contents of the blocks and
+// messages on their way, and what its devices and wires tell; its view is the run of the journal. `Parts` are what it is made
+// of. The layer above may rely on this: each step answers as the machine does, and the type keeps that the journal is a run,
+// the view invariant, where both devices tell what they hold the contents of all, and that what is counted and planned agrees
+// with the journal; and a migration comes from all that it came from before. So no write of a guest is lost, by what the
+// journal tells (`specs/Losing.antt`). All memory is taken at the start.
 #![tactic(auto)]
 
 mod cancels;

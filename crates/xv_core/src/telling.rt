@@ -175,11 +175,12 @@ impl<S: UnitDevice, T: UnitDevice, W: Wire> Migration<S, T, W> {
         ensures wires { result.wires ≡ map bare self.wires }
         ensures back { result.back ≡ bare self.back }
     {
+        let wires = self.streams.into_wires();
         Parts {
             job: self.job,
             source: self.source.into_device(),
             dest: self.dest.into_device(),
-            wires: self.streams.into_wires(),
+            wires,
             back: self.back.into_wire(),
         }
     }

@@ -6,5 +6,5 @@ use Rattle.xv_core.proofs.migration.Migration.into_parts.Goals as goal
 
 pub returns-clause-wires : goal.returns-clause-wires
 returns-clause-wires g c =
-    bare-wires g.W.Wire.told g.W.Wire.faults c.into_wires.result.items _ c.into_wires.ensures.told c.into_wires.ensures.faults
+    bare-wires g.W.Wire.told g.W.Wire.faults c.into_wires-wires.result.items _ c.into_wires-wires.ensures.told c.into_wires-wires.ensures.faults
     ∙ ap (λ (m : Seen). map bare m.wires) c.self.view_is
