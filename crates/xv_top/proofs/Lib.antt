@@ -4,11 +4,12 @@ pub mod Played
 pub mod Replayed
 pub mod Inputs
 pub mod Results
-pub mod Always
+pub mod Answered
 pub mod Ran
 pub mod Refusals
 pub mod Handovers
 pub mod Agreeing
 pub mod Unmigrated
 pub mod Driven
-pub mod Complete
+pub mod Statuses
+pub mod Commands

@@ -1,9 +1,9 @@
 pub mod Refused
 pub mod Replay
-pub mod Top
 pub mod Playing
+pub mod Outcome
+pub mod Top
 pub mod Command
 pub mod Driven
 pub mod Handover
-pub mod Answers
-pub mod Flushed
+pub mod Promises
