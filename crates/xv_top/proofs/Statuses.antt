@@ -4,15 +4,18 @@ use Rattle.std.specs.Prelude.{◌⊎◌, Result, Ok, Err}
 use Rattle.xv_base.specs.declared.text.LineFault.{LineFault}
 use Rattle.xv_base.specs.declared.status.Status.{Status}
 use Rattle.xv_base.specs.declared.status.Status.TheVariants.{Fine, BadWords, BadInput, ReadFault, WriteFault, NoMemory, Failed, Cancelled}
-use Rattle.xv_job.specs.JobText.{job_text}
+use Rattle.xv_io.specs.Io.{TookMore}
+use Rattle.xv_job.specs.Written.{Written, job_of}
 use Rattle.xv_job.specs.Made.{made_job}
-use Rattle.xv_top.specs.Refused.{input_fault, refused_line}
-use Rattle.xv_top.specs.Outcome.{Outcome, ReadsQuietly, ReadsNothing, ReadsWithin, ReadsEnough, WritesNothing, WritesAll, WriteFails, WritesFront}
-use Rattle.xv_top.specs.Top.{IsReplayed, IsReplayCut, IsReplayShort}
+use Rattle.xv_script.specs.declared.line.Line.{Line}
+use Rattle.xv_top.specs.Refused.{input_fault}
+use Rattle.xv_top.specs.Outcome.{Outcome, ReadsQuietly, ReadsNothing, ReadsWithin, WritesNothing, WritesQuietly, WriteFails, WritesFront}
+use Rattle.xv_top.specs.Replay.{transcript}
+use Rattle.xv_top.specs.Top.{IsInput, IsReplayed, IsReplayCut, IsReplayShort}
 use Rattle.xv_top.specs.Driven.{drive_text, IsDriven}
-use Rattle.xv_top.specs.Handover.{handover_fault, IsHandedOver, IsHandoverCut}
-use Rattle.xv_top.specs.Promises.{IsRefusedBy, IsRefusalCut, IsReadFailed, IsOutOfMemory, IsGoodInput, HasNotFailed, IsComplete, IsOfCommand, ReplayPromise, GenPromise, HandoverPromise, DrivePromise}
+use Rattle.xv_top.specs.Promises.{IsRefusedBy, IsRefusalCut, IsReadFailed, IsOutOfMemory, IsGoodInput, HasNotFailed, IsComplete, IsOfCommand, ReplayPromise, DrivePromise}
 use Rattle.xv_top.specs.declared.command.Form.{Form}
+use Rattle.xv_top.specs.declared.command.Form.TheVariants.{Json}
 use Rattle.xv_top.specs.declared.program.Left.TheVariants.{Nothing}
 
 -- what is said at each status of a command
@@ -119,43 +122,7 @@ replay-promise form o reads left says =
       no_other = each.no_other;
     }
 
-abbrev pub HandoverSays : Outcome → Status → Type 0
-HandoverSays o s =
-    Says (IsHandedOver o) (IsRefusedBy handover_fault o) (IsReadFailed o) (ReadsQuietly o.input × (WriteFails o.output × (IsRefusalCut handover_fault o ⊎ IsHandoverCut o)))
-    (IsOutOfMemory o) s
-
-pub handover-promise : (o : Outcome) → ReadsWithin o.input → o.left ≡ Nothing → HandoverSays o o.status → HandoverPromise o
-handover-promise o reads left says =
-    let each = says-each _ _ _ _ _ o.status says in
-    record {
-      reads = reads;
-      fine = each.fine;
-      bad_input = each.bad_input;
-      read_fault = each.read_fault;
-      write_fault = λ is. ((each.write_fault is).0, (each.write_fault is).1.1);
-      no_memory = each.no_memory;
-      complete = λ good held. each.complete (not-refused handover_fault o good) (λ failed. held.input failed.input) (λ failed. held.output failed.1.0);
-      left = left;
-      no_other = each.no_other;
-    }
-
 -- a command that reads nothing
-pub gen-promise : (number : ℕ) (o : Outcome) → ReadsNothing o.input → o.left ≡ Nothing
-    → Says (WritesAll o.output (job_text (made_job number))) ⊥ ⊥ (WritesFront o.output (job_text (made_job number))) (WritesNothing o.output) o.status → GenPromise number o
-gen-promise number o reads left says =
-    let each = says-each _ _ _ _ _ o.status says in
-    record {
-      reads = reads;
-      fine = each.fine;
-      bad_input = each.bad_input;
-      read_fault = each.read_fault;
-      write_fault = each.write_fault;
-      no_memory = each.no_memory;
-      complete = λ held. each.complete (λ none. none) (λ none. none) (λ cut. held cut.failed);
-      left = left;
-      no_other = each.no_other;
-    }
-
 pub drive-promise : (number : ℕ) (o : Outcome) → ReadsNothing o.input → (o.status ≢ Fine → o.left ≡ Nothing)
     → Says (IsDriven number o) ⊥ ⊥ (WritesFront o.output (drive_text (made_job number))) (WritesNothing o.output) o.status → DrivePromise number o
 drive-promise number o reads left says =
@@ -172,23 +139,16 @@ drive-promise number o reads left says =
       no_other = each.no_other;
     }
 
--- What is said where an input is refused: its line was written, or the output failed at it.
-abbrev pub RefusalSays : (List ℕ → Option LineFault) → Outcome → Type 0 → Type 0 → Type 0 → Status → Type 0
-RefusalSays fault_of o F M C s =
-    Says F (IsRefusedBy fault_of o) (IsReadFailed o) (ReadsQuietly o.input × (WriteFails o.output × (IsRefusalCut fault_of o ⊎ C))) M s
-
-pub refusal-says : (fault_of : List ℕ → Option LineFault) (o : Outcome) (F M C : Type 0) (fault : LineFault)
-    → IfSome o.input.before (λ xs. fault_of xs ≡ Some fault) → ReadsEnough o.input → (o.status ≡ BadInput) ⊎ (o.status ≡ WriteFault)
-    → (o.status ≡ BadInput → WritesAll o.output (refused_line fault)) → (o.status ≡ WriteFault → WritesFront o.output (refused_line fault)) → RefusalSays fault_of o F M C o.status
-refusal-says fault_of o F M C fault refused reads (inl is) whole front =
-    subst (λ (s : Status). RefusalSays fault_of o F M C s) (sym is) (record { fault = fault; refused = refused; input = reads; output = whole is })
-refusal-says fault_of o F M C fault refused reads (inr is) whole front =
-    subst (λ (s : Status). RefusalSays fault_of o F M C s) (sym is)
-    (reads.quiet, ((front is).failed, inl (record { fault = fault; refused = refused; output = front is })))
-
 -- what was answered is no other error
 pub ok-no_err : {T E : Type 0} (r : Result T E) (x : T) (e : E) → r ≡ Ok x → r ≡ Err e → ⊥
 ok-no_err r x e ok err = let impossible : Ok x ≡ Err e = sym ok ∙ err in cc
 
 pub err-no_err : {T E : Type 0} (r : Result T E) (a b : E) → r ≡ Err a → (a ≡ b → ⊥) → r ≡ Err b → ⊥
 err-no_err r a b is other err = other (let same : Err a ≡ Err b = sym is ∙ err in cc)
+
+-- for want of memory nothing was written, or the transcript alone
+pub short-or-none : (form : Form) (o : Outcome) (written : Written) (lines : List Line) → ReadsQuietly o.input → WritesQuietly o.output → IfSome o.input.before (λ xs. IsInput xs written lines)
+    → (o.output.after ≡ o.output.before) ⊎ ((form ≡ Json) × TookMore o.output.before o.output.after (transcript (job_of written) lines)) → IsOutOfMemory o ⊎ IsReplayShort form o
+short-or-none form o written lines input output text (inl stays) = inl (record { input = input; output = record { stays = stays; quiet = output } })
+short-or-none form o written lines input output text (inr (json, taken)) =
+    inr (record { json = json; written = written; lines = lines; input = text; output = taken; quiet_input = input; quiet_output = output })

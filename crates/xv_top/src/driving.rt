@@ -1,6 +1,6 @@
 //! The command `drive`: the job that a number makes, driven to its end.
 
-ghost use Rattle.std.specs.Prelude.{◌≡◌, ◌≤◌, ℕ, false, length, IfOk, OnOk, OnErr, IsErrOf};
+ghost use Rattle.std.specs.Prelude.{◌≡◌, ◌<◌, ◌≤◌, ◌^◌, ℕ, false, length, IfOk, OnOk, OnErr, IsErrOf};
 ghost use Rattle.xv_base.specs.Units.{units};
 ghost use Rattle.xv_base.specs.Calls.{CountRose};
 ghost use Rattle.xv_io.specs.Io.{TookMore, TookFront};
@@ -34,7 +34,9 @@ use xv_report::write_report;
 /// Answers `WriteFault` where the output failed, `NoMemory` for want of memory, where nothing was written.
 pub fn run_drive<O: Sink>(alloc: Global, number: u16, output: &mut O, left: &mut Left) -> Status
     requires { left.old ≡ Left.Nothing }
-    ensures { (input : OnInput) → ReadsNothing input → DrivePromise number (outcome input (output_over O.taken O.faults O.keeps_back output.old output.new) result left.new) }
+    // That the number fits its type is told here, since it is a value's own.
+    ensures below { number < 2 ^ 16 }
+    ensures promise { (input : OnInput) → ReadsNothing input → DrivePromise number (outcome input (output_over O.taken O.faults O.keeps_back output.old output.new) result left.new) }
 {
     match drive(alloc, number, output) {
         Ok(machine) => {

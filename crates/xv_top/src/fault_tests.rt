@@ -53,8 +53,8 @@ const CASES: &[Case] = &[
         words: &["gen", "7"],
         input: b"",
         room: 100_000,
-        piece: 20_000,
-        calls: 4,
+        piece: 40_000,
+        calls: 3,
         status: 0,
     },
     Case {
@@ -62,8 +62,8 @@ const CASES: &[Case] = &[
         words: &["drive", "7"],
         input: b"",
         room: 500,
-        piece: 100,
-        calls: 4,
+        piece: 500,
+        calls: 3,
         status: 0,
     },
     Case {
@@ -112,8 +112,15 @@ fn tells_each_failed_call_of_the_output(rt: HostRuntime) -> Result<(), Fail> {
         for call in 1..=case.calls {
             let (status, front) = outcome(rt.alloc(), case, call)?;
             assert_eq!(rt; status, 4, "{name} {call}");
-            assert!(rt; whole.get(..front.len()) == Some(front.as_slice()), "{name} {call}");
-            assert_eq!(rt; front.len() == whole.len(), call == case.calls, "{name} {call}");
+            assert!(rt;
+                whole.get(..front.len()) == Some(front.as_slice()),
+                "{name} {call}"
+            );
+            assert_eq!(rt;
+                front.len() == whole.len(),
+                call == case.calls,
+                "{name} {call}"
+            );
         }
         let (status, _) = outcome(rt.alloc(), case, case.calls.saturating_add(1))?;
         assert_eq!(rt; status, case.status, "{name}");

@@ -1,6 +1,6 @@
 //! The command `gen`: the text of the job that a number makes.
 
-ghost use Rattle.std.specs.Prelude.{◌≡◌, IfOk};
+ghost use Rattle.std.specs.Prelude.{◌≡◌, ◌<◌, ◌^◌, IfOk};
 ghost use Rattle.xv_job.specs.JobText.{job_text};
 ghost use Rattle.xv_job.specs.Made.{made_job};
 ghost use Rattle.xv_top.specs.Outcome.{OnInput, ReadsNothing, output_over, outcome};
@@ -17,7 +17,9 @@ use xv_job::{make_job, print_job};
 ///
 /// Answers `WriteFault` where the output failed, `NoMemory` for want of memory, where nothing was written.
 pub fn run_gen<O: Sink>(alloc: Global, number: u16, output: &mut O) -> Status
-    ensures { (input : OnInput) → ReadsNothing input → GenPromise number (outcome input (output_over O.taken O.faults O.keeps_back output.old output.new) result Nothing) }
+    // That the number fits its type is told here, since it is a value's own.
+    ensures below { number < 2 ^ 16 }
+    ensures promise { (input : OnInput) → ReadsNothing input → GenPromise number (outcome input (output_over O.taken O.faults O.keeps_back output.old output.new) result Nothing) }
 {
     let text = match made_text(alloc, number) {
         Ok(text) => text,

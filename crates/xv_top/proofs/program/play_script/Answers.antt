@@ -36,12 +36,11 @@ returns-in-Err-NoMemory-clause-front g c =
 pub returns-in-Err-NoMemory-clause-memory : goal.returns-in-Err-NoMemory-clause-memory
 returns-in-Err-NoMemory-clause-memory g c = λ _.
     let played = c.in-Ok.ensures.played in
-    let short = c.write_result.ensures.memory c.in-Err-NoMemory.is in
-    (
+    let short = c.write_result.ensures.memory (cc (c.in-Err-NoMemory.is, c.in-Err-NoMemory.field-0-is)) in (
       short.0,
       transcript-taken c.args.machine.now.job c.replay_on.new.migration c.args.lines.now played.0 (g.O.Sink.taken c.args.output.now) (g.O.Sink.taken c.replay_on.new.sink) (g.O.Sink.taken c.write_result.new.output)
-      (replayed c.args.machine.now.job c.args.machine.now c.replay_on.new.migration c.args.lines.now played.0 c.requires.begun c.journal.ensures.kept c.requires.script played.1)
-      played.2 short.1,
+          (replayed c.args.machine.now.job c.args.machine.now c.replay_on.new.migration c.args.lines.now played.0 c.requires.begun c.journal.ensures.kept c.requires.script played.1)
+          played.2 short.1,
     )
 
 pub returns-in-Err-clause-front : goal.returns-in-Err-clause-front

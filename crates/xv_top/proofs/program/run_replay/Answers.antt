@@ -1,33 +1,16 @@
-use Rattle.std.proofs.Common.{List, refl, sym, subst, ◌∙◌, inl, inr}
+use Rattle.std.proofs.Common.{List, refl, sym, ◌∙◌, subst, inr}
 use Rattle.std.specs.Prelude.{IfSome}
 use Rattle.xv_job.specs.Written.{job_of}
 use Rattle.xv_script.specs.Script.{IsScriptOf}
 use Rattle.xv_script.specs.declared.line.Line.{Line}
 use Rattle.xv_top.specs.Top.{IsInput}
-use Rattle.xv_top.proofs.Statuses.{replay-promise, refusal-says, ok-no_err, err-no_err}
+use Rattle.xv_top.proofs.Statuses.{replay-promise, short-or-none, ok-no_err, err-no_err}
 use Rattle.xv_top.proofs.program.run_replay.Goals as goal
 
 pub replay-requires : goal.replay-requires
 replay-requires g c = record {
   script = subst (λ (lines : List Line). IsScriptOf (job_of c.in-Ok.found.0) lines) (sym c.deref.ensures.value) c.in-Ok.ensures.script;
 }
-
-pub returns-in-Err-ReadFault : goal.returns-in-Err-ReadFault
-returns-in-Err-ReadFault g c =
-    replay-promise c.args.form _ c.read_input.ensures.most (λ _. refl)
-    (record { input = c.in-Err-ReadFault.ensures.fault tt; output = record { stays = refl; quiet = refl } })
-
-pub returns-in-Err-NoMemory : goal.returns-in-Err-NoMemory
-returns-in-Err-NoMemory g c =
-    replay-promise c.args.form _ c.read_input.ensures.most (λ _. refl)
-    (inl (record { input = c.read_input.ensures.quiet (err-no_err _ _ _ c.in-Err-NoMemory.is (λ is. cc)); output = record { stays = refl; quiet = refl } }))
-
-pub returns-in-Err-Refused : goal.returns-in-Err-Refused
-returns-in-Err-Refused g c =
-    replay-promise c.args.form _ c.read_input.ensures.most (λ _. refl)
-    (refusal-says _ _ _ _ _ c.in-Err-Refused.fault c.in-Err-Refused.ensures.refused
-    (record { enough = c.in-Err-Refused.ensures.refused_reads; quiet = c.read_input.ensures.quiet (err-no_err _ _ _ c.in-Err-Refused.is (λ is. cc)) })
-    c.refuse_input.ensures.answers c.refuse_input.ensures.whole c.refuse_input.ensures.front)
 
 pub returns-in-Ok-replay : goal.returns-in-Ok-replay
 returns-in-Ok-replay g c =
@@ -47,9 +30,8 @@ returns-in-Ok-replay g c =
 pub returns-in-Err-WriteFault : goal.returns-in-Err-WriteFault
 returns-in-Err-WriteFault g c =
     let text = subst (λ (lines : List Line). IfSome (g.I.Source.left c.args.input.now) (λ bytes. IsInput bytes c.in-Ok.found.0 lines)) (sym c.deref.ensures.value) c.in-Ok.ensures.text in
-    let failed = c.replay.ensures.fault c.in-Err-WriteFault.is in
-    replay-promise c.args.form _ c.read_input.ensures.most (λ _. refl)
-    (
+    let failed = c.replay.ensures.fault (cc (c.in-Err-WriteFault.is, c.in-Err-WriteFault.field-0-is)) in
+    replay-promise c.args.form _ c.read_input.ensures.most (λ _. c.requires) (
       c.read_input.ensures.quiet (ok-no_err _ _ _ c.in-Ok.is),
       (
         failed,
@@ -57,3 +39,10 @@ returns-in-Err-WriteFault g c =
       ),
     )
 
+pub returns : goal.returns
+returns g c =
+    let text = subst (λ (lines : List Line). IfSome (g.I.Source.left c.args.input.now) (λ bytes. IsInput bytes c.in-Ok.found.0 lines)) (sym c.deref.ensures.value) c.in-Ok.ensures.text in
+    let short = c.replay.ensures.memory (cc (c.in-Err-NoMemory-replay.is, c.in-Err-NoMemory-replay.field-0-is)) in
+    let quiet = c.replay.ensures.quiet (err-no_err _ c.in-Err-NoMemory-replay.field-0 _ c.in-Err-NoMemory-replay.is (λ same. (let impossible = sym c.in-Err-NoMemory-replay.field-0-is ∙ same in cc))) in
+    replay-promise c.args.form _ c.read_input.ensures.most (λ _. c.requires)
+    (short-or-none c.args.form _ c.in-Ok.found.0 c.deref.result.now (c.read_input.ensures.quiet (ok-no_err _ _ _ c.in-Ok.is)) quiet text short)

@@ -1,4 +1,4 @@
-use Rattle.std.proofs.Common.{refl, ap, inl, inr, arith}
+use Rattle.std.proofs.Common.{refl, ap}
 use Rattle.xv_top.specs.Command.{words_of}
 use Rattle.xv_top.specs.declared.command.Command.TheVariants.{Replay, Gen, Handover, Drive}
 use Rattle.xv_top.proofs.Commands.{promise-of}
@@ -10,8 +10,8 @@ returns-in-Some-Replay-clause-promise g c = λ command good is.
 
 pub returns-in-Some-Gen-clause-promise : goal.returns-in-Some-Gen-clause-promise
 returns-in-Some-Gen-clause-promise g c = λ command good is.
-    promise-of _ (Gen c.in-Some-Gen.number) command _ (omega arith) (cc (c.in-Some-Gen.ensures.found, ap words_of c.in-Some-Gen.field-0-is))
-    (c.run_gen.ensures _ (record { stays = refl; quiet = refl })) good is
+    promise-of _ (Gen c.in-Some-Gen.number) command _ c.run_gen.ensures.below (cc (c.in-Some-Gen.ensures.found, ap words_of c.in-Some-Gen.field-0-is))
+    (c.run_gen.ensures.promise _ (record { stays = refl; quiet = refl })) good is
 
 pub returns-in-Some-Handover-clause-promise : goal.returns-in-Some-Handover-clause-promise
 returns-in-Some-Handover-clause-promise g c = λ command good is.
@@ -19,5 +19,8 @@ returns-in-Some-Handover-clause-promise g c = λ command good is.
 
 pub returns-in-Some-Drive-clause-promise : goal.returns-in-Some-Drive-clause-promise
 returns-in-Some-Drive-clause-promise g c = λ command good is.
-    promise-of _ (Drive c.in-Some-Drive.number) command _ (omega arith) (cc (c.in-Some-Drive.ensures.found, ap words_of c.in-Some-Drive.field-0-is))
-    (c.run_drive.ensures _ (record { stays = refl; quiet = refl })) good is
+    promise-of _ (Drive c.in-Some-Drive.number) command _ c.run_drive.ensures.below (cc (c.in-Some-Drive.ensures.found, ap words_of c.in-Some-Drive.field-0-is))
+    (c.run_drive.ensures.promise _ (record { stays = refl; quiet = refl })) good is
+
+pub returns-in-None-clause-words : goal.returns-in-None-clause-words
+returns-in-None-clause-words g c = λ _. c.refuse_words.ensures _ (record { stays = refl; quiet = refl })
