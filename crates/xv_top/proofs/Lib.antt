@@ -4,12 +4,13 @@ pub mod Played
 pub mod Replayed
 pub mod Inputs
 pub mod Results
-pub mod Always
+pub mod Answered
 pub mod Ran
 pub mod Refusals
 pub mod Handovers
 pub mod Agreeing
 pub mod Unmigrated
 pub mod Driven
-pub mod Complete
 pub mod Printed
+pub mod Statuses
+pub mod Commands

@@ -6,7 +6,7 @@ use Rattle.std.proofs.lemmas.List.Folds.{list_all-append}
 use Rattle.std.specs.List.{list_all}
 use Rattle.xv_io.specs.Io.{TookMore, TookFront}
 use Rattle.xv_io.proofs.Took.{took-both, front-first, front-last}
-use Rattle.xv_model.specs.Job.{Job, IsGoodJob}
+use Rattle.xv_model.specs.Job.{Job}
 use Rattle.xv_model.specs.View.{first_view}
 use Rattle.xv_model.specs.Step.{Entry, play, is_faithful}
 use Rattle.xv_script.specs.Lines.{events_of}
@@ -16,11 +16,11 @@ use Rattle.xv_job.specs.Written.{Written, job_of}
 use Rattle.xv_core.specs.Seen.{Seen}
 use Rattle.xv_core.specs.Keeping.{IsKept}
 use Rattle.xv_parts.specs.Memory.{IsInMemory, begun_in_memory}
-use Rattle.xv_top.specs.Playing.{ArePlayed, IsCutShort}
+use Rattle.xv_top.specs.Playing.{ArePlayed, IsCutShort, AreAnswered}
 use Rattle.xv_top.specs.Replay.{transcript, result_text, output_text}
 use Rattle.xv_top.specs.Top.{HasRun}
 use Rattle.xv_top.specs.declared.command.Form.{Form}
-use Rattle.xv_top.proofs.Always.{always, script-fits}
+use Rattle.xv_top.proofs.Answered.{answered}
 use Rattle.xv_parts.proofs.Staying.{begins}
 use Rattle.xv_parts.proofs.Planned.{faithful}
 use Rattle.xv_parts.proofs.Holding.{source-writes, dest-writes}
@@ -40,15 +40,23 @@ replayed w start m lines text is kept script played =
     replay-is w lines (begun_in_memory w) m text refl (begins w (subst IsKept is kept)) script.in_job
     (subst (λ (x : Seen). ArePlayed x lines m text) is played)
 
-pub has-run : (w : Written) (m : Seen) (lines : List Line) (text : List ℕ) → IsScriptOf (job_of w) lines → IsReplay w (begun_in_memory w) m lines text → HasRun w lines m
-has-run w m lines text script replay = record {
+pub has-run : (w : Written) (start m : Seen) (lines : List Line) (text : List ℕ) → start ≡ begun_in_memory w → IsKept start → ArePlayed start lines m text → IsReplay w (begun_in_memory w) m lines text → HasRun w lines m
+has-run w start m lines text is kept played replay = record {
+  begun = subst IsKept is kept;
+  played =
+      subst (λ (xs : List ℕ). AreAnswered (begun_in_memory w) lines m xs) replay.transcript
+      (answered lines (begun_in_memory w) m text (subst (λ (x : Seen). ArePlayed x lines m text) is played));
   of_job = replay.of_job;
   journal = replay.journal;
   faithful = subst (λ (x : Written). is_faithful (job_of x) m.journal ≡ true) replay.of_job (faithful m replay.in_memory);
   kept = replay.in_memory.kept;
   counts = record { source = λ unit there. source-writes m replay.in_memory unit; dest = λ unit there. dest-writes m replay.in_memory unit };
-  always = always (job_of w) (events_of lines) (subst (λ (x : Written). IsGoodJob (job_of x)) replay.of_job replay.in_memory.kept.good) (script-fits (job_of w) lines script.in_job);
 }
+
+-- the transcript was taken, and nothing behind it
+pub transcript-taken : (w : Written) (m : Seen) (lines : List Line) (text : List ℕ) (a b c : Option (List ℕ)) → IsReplay w (begun_in_memory w) m lines text → TookMore a b text → c ≡ b → TookMore a c (transcript (job_of w) lines)
+transcript-taken w m lines text a b c replay taken stays =
+    subst (λ (xs : List ℕ). TookMore a c xs) replay.transcript (subst (λ (t : Option (List ℕ)). TookMore a t text) (sym stays) taken)
 
 -- the report and the image of what it left are those of the script's journal
 pub result-of : (form : Form) (w : Written) (m : Seen) (lines : List Line) (text : List ℕ) → IsReplay w (begun_in_memory w) m lines text → result_text form (job_of m.job) m.journal ≡ result_text form (job_of w) (play (job_of w) (events_of lines))

@@ -5,20 +5,34 @@ use Rattle.std.proofs.Math.Seq.{drop-append_seam}
 use Rattle.std.proofs.lemmas.List.{length-map}
 use Rattle.xv_base.specs.declared.text.LineFault.{LineFault}
 use Rattle.xv_text.specs.Lines.{lines_of, has_rest, whole_lines, before_first, fields}
-use Rattle.xv_text.specs.Reading.{first_fault}
+use Rattle.xv_text.specs.Reading.{first_fault, last_state, line_count}
 use Rattle.xv_job.specs.Written.{Written, job_of}
 use Rattle.xv_job.specs.Written.{IsGoodWritten}
 use Rattle.xv_job.specs.Texts.{text_fault as job_text_fault}
 use Rattle.xv_job.proofs.Texts.{job_read, job_is_said, lines_are, rest_is}
 use Rattle.xv_job.specs.JobText.{job_lines, job_text}
 use Rattle.xv_script.specs.Script.{first_script, script_reader, counts_of, text_fault}
-use Rattle.xv_top.specs.Refused.{input_limit, input_fault, lines_fault, fault_or, job_said, job_length, script_lines}
+use Rattle.xv_job.specs.Draft.{first_draft, job_reader}
+use Rattle.xv_top.specs.Refused.{input_limit, input_fault, lines_fault, fault_or, script_behind}
 
 -- a test of an order, where it is known
 pub lt-is_not : (m n : ℕ) → n ≤ m → nat_lt m n ≡ false
 lt-is_not m n h = grind (arith, nat_lt)
 
-pub short-input : (bytes : List ℕ) → length bytes ≤ input_limit → input_fault bytes ≡ lines_fault (lines_of bytes) (has_rest bytes)
+-- the job that the lines say, how many lines it has, and those behind it
+abbrev pub job_said : List (List (List ℕ)) → Written
+job_said lines = (last_state job_reader first_draft lines).job
+
+abbrev pub job_length : List (List (List ℕ)) → ℕ
+job_length lines = line_count job_reader first_draft lines
+
+abbrev pub script_lines : List (List (List ℕ)) → List (List (List ℕ))
+script_lines lines = drop (job_length lines) lines
+
+abbrev pub job_lines_fault : List (List (List ℕ)) → Bool → Option LineFault
+job_lines_fault lines rest = lines_fault job_reader first_draft script_behind first_script lines rest
+
+pub short-input : (bytes : List ℕ) → length bytes ≤ input_limit → input_fault bytes ≡ job_lines_fault (lines_of bytes) (has_rest bytes)
 short-input bytes within = rw (lt-is_not input_limit (length bytes) within) refl
 
 -- where the job has none, the fault of what stands behind it is the input's

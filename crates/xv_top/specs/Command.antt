@@ -1,5 +1,5 @@
 -- The table of commands: the words that call each.
-use Rattle.std.specs.Prelude.{◌≢◌, ◌<◌, ◌^◌, ℕ, List, [], ◌∷◌, codes, decimal, ⊤}
+use Rattle.std.specs.Prelude.{◌≡◌, ◌≢◌, ◌<◌, ◌^◌, ℕ, List, [], ◌∷◌, codes, decimal, ⊤}
 use Rattle.xv_top.specs.declared.command.Command.{Command}
 use Rattle.xv_top.specs.declared.command.Command.TheVariants.{Replay, Gen, Handover, Drive}
 use Rattle.xv_top.specs.declared.command.Form.{Form}
@@ -26,3 +26,7 @@ IsGoodCommand (Drive number) = number < 2 ^ 16
 -- these words call no command
 abbrev pub IsNoCommand : List (List ℕ) → Type 0
 IsNoCommand words = (command : Command) → IsGoodCommand command → words ≢ words_of command
+
+-- they call one
+abbrev pub IsCommand : List (List ℕ) → Type 0
+IsCommand words = (command : Command) × IsGoodCommand command × (words ≡ words_of command)

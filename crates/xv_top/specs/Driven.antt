@@ -1,23 +1,23 @@
 -- What `drive` writes and leaves: the job that a number makes, run by the driver from its beginning to its end.
-use Rattle.std.specs.Prelude.{◌≡◌, ◌<◌, ℕ, ◌++◌, true, List, length, count_by, codes, decimal, Option, None}
+use Rattle.std.specs.Prelude.{◌≡◌, ◌<◌, ℕ, ◌++◌, true, List, length, count_by, codes, decimal}
 use Rattle.std.specs.List.{range_with_len}
 use Rattle.std.specs.Str.{bytes_eq}
 use Rattle.xv_base.specs.declared.event.Phase.TheVariants.{Switched}
-use Rattle.xv_io.specs.Io.{TookMore}
 use Rattle.xv_model.specs.Job.{Job, unit_count}
 use Rattle.xv_model.specs.Guest.{content}
-use Rattle.xv_model.specs.Step.{Entry, run, is_faithful}
-use Rattle.xv_model.specs.Report.{totals}
+use Rattle.xv_model.specs.Step.{Entry, is_faithful}
 use Rattle.xv_model.specs.Contents.{unit_content}
 use Rattle.xv_model.specs.Work.{is_finished}
 use Rattle.xv_model.specs.Driver.{driven}
-use Rattle.xv_report.specs.Texts.{row, report_text}
+use Rattle.xv_report.specs.Texts.{row}
 use Rattle.xv_job.specs.Written.{Written, job_of}
 use Rattle.xv_job.specs.Made.{made_job}
 use Rattle.xv_core.specs.Seen.{Seen, view_of}
 use Rattle.xv_core.specs.Keeping.{IsKept, told_contents}
+use Rattle.xv_top.specs.Outcome.{Outcome, WritesAll}
+use Rattle.xv_top.specs.Replay.{report_of}
 use Rattle.xv_top.specs.Top.{CountsWrites}
-use Rattle.xv_top.specs.declared.program.Left.{Left}
+use Rattle.xv_top.specs.declared.command.Form.TheVariants.{Rows}
 use Rattle.xv_top.specs.declared.program.Left.TheVariants.{First}
 
 -- in how many of so many units two sides hold the same bytes
@@ -31,7 +31,7 @@ agree_line count = row (codes "agree") (decimal count)
 -- The report of a journal, and that all units agree; the journal of a job's driven run; and what is written of that. They are
 -- only names, so that no goal writes out the texts or the run.
 unfoldable pub agreed_text : Job → List Entry → List ℕ
-agreed_text job journal = report_text (totals job (run job journal) (length journal)) None ++ agree_line (unit_count job)
+agreed_text job journal = report_of Rows job journal ++ agree_line (unit_count job)
 
 unfoldable pub driven_journal : Written → List Entry
 driven_journal written = driven (job_of written)
@@ -58,10 +58,10 @@ pub record HasHandedOver (m : Seen) : Type 0 where
   pub switched : (view_of m).phase ≡ Switched
   pub holds : AreTheGuests m (told_contents m.dest)
 
--- the migration that is left has driven the job of the number and handed the guest over, and what is written of it was taken
-pub record IsDriven (number : ℕ) (old new : Option (List ℕ)) (left : Left) : Type 0 where
+-- the migration that is left has driven the job of the number and handed the guest over, and what is written of it was written
+pub record IsDriven (number : ℕ) (o : Outcome) : Type 0 where
   pub migration : Seen
-  pub output : TookMore old new (drive_text (made_job number))
+  pub output : WritesAll o.output (drive_text (made_job number))
   pub has_driven : HasDriven (made_job number) migration
   pub handed_over : HasHandedOver migration
-  pub is_left : left ≡ First migration
+  pub is_left : o.left ≡ First migration

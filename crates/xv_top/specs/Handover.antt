@@ -1,17 +1,15 @@
 -- How `handover` refuses what it reads, and what it writes.
-use Rattle.std.specs.Prelude.{◌≡◌, ◌⊎◌, ℕ, nat_lt, List, length, Option, Some, None, IfSome, if◌then◌else◌}
-use Rattle.xv_io.specs.Io.{TookMore, TookFront}
-use Rattle.xv_text.specs.declared.limits.TheConstants.{LIMIT_OF_INPUT}
-use Rattle.xv_base.specs.declared.text.LineWhy.TheVariants.{Limit}
+use Rattle.std.specs.Prelude.{◌≡◌, ℕ, List, Option, None, IfSome}
 use Rattle.xv_base.specs.declared.text.LineFault.{LineFault}
 use Rattle.xv_handover.specs.Lines.{script_text, world_text}
 use Rattle.xv_handover.specs.Script.{text_fault, IsScript}
 use Rattle.xv_handover.specs.declared.world.WorldEvent.{WorldEvent}
-use Rattle.xv_top.specs.Refused.{input_limit, refused_line}
+use Rattle.xv_top.specs.Refused.{too_long_or}
+use Rattle.xv_top.specs.Outcome.{Outcome, ReadsAll, WritesAll, WritesFront}
 
 -- an input is refused by its length, or by the first faulty line of its script
 abbrev pub handover_fault : List ℕ → Option LineFault
-handover_fault bytes = if nat_lt input_limit (length bytes) then Some (record { line = 0; why = Limit LIMIT_OF_INPUT }) else text_fault bytes
+handover_fault bytes = too_long_or bytes (text_fault bytes)
 
 -- these bytes are refused nowhere, and are the text of a script of these events
 pub record IsHandover (bytes : List ℕ) (events : List WorldEvent) : Type 0 where
@@ -19,22 +17,15 @@ pub record IsHandover (bytes : List ℕ) (events : List WorldEvent) : Type 0 whe
   pub script : IsScript events
   pub text : bytes ≡ script_text events
 
--- a script was read, and what the world of its events prints was taken
-pub record IsHandedOver (bytes old new : Option (List ℕ)) : Type 0 where
+-- the input is a script, and what the world of its events prints was written
+pub record IsHandedOver (o : Outcome) : Type 0 where
   pub events : List WorldEvent
-  pub input : IfSome bytes (λ xs. IsHandover xs events)
-  pub output : TookMore old new (world_text events)
+  pub read : ReadsAll o.input
+  pub input : IfSome o.input.before (λ xs. IsHandover xs events)
+  pub output : WritesAll o.output (world_text events)
 
--- where the output failed: a front of the refusal of a script that is refused, or of what its world prints
-pub record IsFrontOfRefusedHandover (bytes old new : Option (List ℕ)) : Type 0 where
-  pub fault : LineFault
-  pub refused : IfSome bytes (λ xs. handover_fault xs ≡ Some fault)
-  pub front : TookFront old new (refused_line fault)
-
-pub record IsFrontOfHandover (bytes old new : Option (List ℕ)) : Type 0 where
+-- the input is a script, and the output failed at what its world prints
+pub record IsHandoverCut (o : Outcome) : Type 0 where
   pub events : List WorldEvent
-  pub input : IfSome bytes (λ xs. IsHandover xs events)
-  pub front : TookFront old new (world_text events)
-
-abbrev pub IsHandoverFront : Option (List ℕ) → Option (List ℕ) → Option (List ℕ) → Type 0
-IsHandoverFront bytes old new = IsFrontOfRefusedHandover bytes old new ⊎ IsFrontOfHandover bytes old new
+  pub input : IfSome o.input.before (λ xs. IsHandover xs events)
+  pub output : WritesFront o.output (world_text events)

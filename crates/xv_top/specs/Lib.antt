@@ -1,10 +1,10 @@
 pub mod Refused
 pub mod Replay
-pub mod Top
 pub mod Playing
+pub mod Outcome
+pub mod Top
 pub mod Command
 pub mod Driven
 pub mod Handover
-pub mod Answers
-pub mod Flushed
+pub mod Promises
 pub mod Printed

@@ -3,6 +3,7 @@ use Rattle.std.specs.Prelude.{◌≡◌, ◌≤◌, ℕ, List, [], ◌∷◌, �
 use Rattle.xv_io.specs.Io.{TookMore, TookFront}
 use Rattle.xv_model.specs.Wait.{Event}
 use Rattle.xv_model.specs.Effect.{Turn}
+use Rattle.xv_model.specs.Step.{turn, entry_of, is_flagged}
 use Rattle.xv_model.specs.Report.{probe}
 use Rattle.xv_script.specs.Lines.{turn_line, probe_line}
 use Rattle.xv_script.specs.declared.line.Line.{Line}
@@ -53,3 +54,23 @@ pub record IsCutShort (old : Seen) (lines : List Line) (new : Seen) (before afte
   pub front : ℕ
   pub within : front ≤ length text_of_last
   pub taken : TookMore before after (text ++ take front text_of_last)
+
+-- An event was answered: the answer is the machine's, the job stays, the journal has the event's entry, all is kept that every
+-- migration keeps, and the line says the answer with the bytes that were read.
+pub record IsAnswered (old : Seen) (event : Event) (new : Seen) (text : List ℕ) : Type 0 where
+  pub answer : Turn
+  pub answers : answer ≡ turn (job_of old.job) (view_of old) event (is_flagged answer)
+  pub of_job : new.job ≡ old.job
+  pub journal : new.journal ≡ old.journal ++ entry_of event answer
+  pub kept : IsKept new
+  pub line : text ≡ turn_line event answer (drop (length old.reads) new.reads)
+
+abbrev pub IsLineAnswered : Seen → Line → Seen → List ℕ → Type 0
+IsLineAnswered old (Step event) new text = IsAnswered old event new text
+IsLineAnswered old (Ask unit) new text = (new ≡ old) × (text ≡ probe_line (probe (job_of old.job) (view_of old) unit.0))
+
+-- lines were answered one after another, each where the one before it left the migration
+abbrev pub AreAnswered : Seen → List Line → Seen → List ℕ → Type 0
+AreAnswered old [] new text = (new ≡ old) × (text ≡ [])
+AreAnswered old (l ∷ ls) new text =
+    (mid : Seen) × (first : List ℕ) × (rest : List ℕ) × IsLineAnswered old l mid first × AreAnswered mid ls new rest × (text ≡ first ++ rest)

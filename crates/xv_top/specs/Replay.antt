@@ -40,9 +40,16 @@ abbrev pub totals_text : Form → Totals → List ℕ
 totals_text Rows t = report_text t None
 totals_text Json t = report_json t None
 
--- the output: the transcript of the lines, and the report and the image of the journal that their events make
-abbrev pub result_text : Form → Job → List Entry → List ℕ
-result_text form job journal = totals_text form (totals job (run job journal) (length journal)) ++ image_text (sources job (run job journal)) (dests job (run job journal))
+-- what a result is made of: the report, and the image, of the job and the journal that its migration has in the end
+abbrev pub report_of : Form → Job → List Entry → List ℕ
+report_of form job journal = totals_text form (totals job (run job journal) (length journal))
 
+abbrev pub image_of : Job → List Entry → List ℕ
+image_of job journal = image_text (sources job (run job journal)) (dests job (run job journal))
+
+abbrev pub result_text : Form → Job → List Entry → List ℕ
+result_text form job journal = report_of form job journal ++ image_of job journal
+
+-- the output: the transcript of the lines, and the result of the journal that their events make
 abbrev pub output_text : Form → Job → List Line → List ℕ
 output_text form job lines = transcript job lines ++ result_text form job (play job (events_of lines))

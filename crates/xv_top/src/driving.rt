@@ -1,6 +1,6 @@
 //! The command `drive`: the job that a number makes, driven to its end.
 
-ghost use Rattle.std.specs.Prelude.{◌≡◌, ◌≢◌, ◌≤◌, ℕ, false, length, IfOk, OnOk, OnErr, IsErrOf};
+ghost use Rattle.std.specs.Prelude.{◌≡◌, ◌<◌, ◌≤◌, ◌^◌, ℕ, false, length, IfOk, OnOk, OnErr, IsErrOf};
 ghost use Rattle.xv_base.specs.Units.{units};
 ghost use Rattle.xv_base.specs.Calls.{CountRose};
 ghost use Rattle.xv_io.specs.Io.{TookMore, TookFront};
@@ -10,8 +10,9 @@ ghost use Rattle.xv_job.specs.Written.{job_of};
 ghost use Rattle.xv_job.specs.Made.{made_job};
 ghost use Rattle.xv_guest.specs.Plain.{IsUnmigrated};
 ghost use Rattle.xv_parts.specs.Memory.{IsInMemory, begun_in_memory};
-ghost use Rattle.xv_top.specs.Flushed.{IsWhole};
-ghost use Rattle.xv_top.specs.Driven.{agreeing, agree_line, agreed_text, drive_text, HasDriven, AreTheGuests, HasHandedOver, IsDriven};
+ghost use Rattle.xv_top.specs.Outcome.{OnInput, ReadsNothing, output_over, outcome};
+ghost use Rattle.xv_top.specs.Driven.{agreeing, agree_line, agreed_text, drive_text, HasDriven, AreTheGuests, HasHandedOver};
+ghost use Rattle.xv_top.specs.Promises.{DrivePromise};
 
 use crate::output::write_out;
 use crate::playing::PlayError;
@@ -33,13 +34,9 @@ use xv_report::write_report;
 /// Answers `WriteFault` where the output failed, `NoMemory` for want of memory, where nothing was written.
 pub fn run_drive<O: Sink>(alloc: Global, number: u16, output: &mut O, left: &mut Left) -> Status
     requires { left.old ≡ Left.Nothing }
-    ensures fine { result ≡ Status.Fine → IsDriven number (O.taken output.old) (O.taken output.new) left.new }
-    ensures flushed { IsWhole result → O.keeps_back output.new ≡ false }
-    ensures write_fault { result ≡ Status.WriteFault → CountRose (O.faults output.old) (O.faults output.new) }
-    ensures quiet { result ≢ Status.WriteFault → O.faults output.new ≡ O.faults output.old }
-    ensures front { result ≡ Status.WriteFault → TookFront (O.taken output.old) (O.taken output.new) (drive_text (made_job number)) }
-    ensures left { (result ≡ Status.Fine → ⊥) → left.new ≡ Left.Nothing }
-    ensures no_other { (result ≢ Status.BadWords) × (result ≢ Status.BadInput) × (result ≢ Status.ReadFault) × (result ≢ Status.Failed) × (result ≢ Status.Cancelled) }
+    // That the number fits its type is told here, since it is a value's own.
+    ensures below { number < 2 ^ 16 }
+    ensures promise { (input : OnInput) → ReadsNothing input → DrivePromise number (outcome input (output_over O.taken O.faults O.keeps_back output.old output.new) result left.new) }
 {
     match drive(alloc, number, output) {
         Ok(machine) => {
@@ -57,6 +54,7 @@ fn drive<O: Sink>(alloc: Global, number: u16, output: &mut O) -> Result<Machine,
     ensures handed_over { IfOk result (λ m. HasHandedOver m) }
     ensures written { OnOk result (TookMore (O.taken output.old) (O.taken output.new) (drive_text (made_job number))) }
     ensures front { OnErr result (TookFront (O.taken output.old) (O.taken output.new) (drive_text (made_job number))) }
+    ensures memory { IsErrOf result PlayError.NoMemory → O.taken output.new ≡ O.taken output.old }
     ensures flushed { OnOk result (O.keeps_back output.new ≡ false) }
     ensures fault { IsErrOf result PlayError.WriteFault → CountRose (O.faults output.old) (O.faults output.new) }
     ensures quiet { ¬ IsErrOf result PlayError.WriteFault → O.faults output.new ≡ O.faults output.old }
@@ -111,6 +109,7 @@ fn write_driven<O: Sink>(alloc: Global, machine: &Machine, output: &mut O) -> Re
     requires { IsInMemory machine.now }
     ensures whole { OnOk result (TookMore (O.taken output.old) (O.taken output.new) (agreed_text (job_of machine.now.job) machine.now.journal)) }
     ensures front { OnErr result (TookFront (O.taken output.old) (O.taken output.new) (agreed_text (job_of machine.now.job) machine.now.journal)) }
+    ensures memory { IsErrOf result PlayError.NoMemory → O.taken output.new ≡ O.taken output.old }
     ensures flushed { OnOk result (O.keeps_back output.new ≡ false) }
     ensures fault { IsErrOf result PlayError.WriteFault → CountRose (O.faults output.old) (O.faults output.new) }
     ensures quiet { ¬ IsErrOf result PlayError.WriteFault → O.faults output.new ≡ O.faults output.old }

@@ -1,11 +1,11 @@
 //! The command `gen`: the text of the job that a number makes.
 
-ghost use Rattle.std.specs.Prelude.{◌≡◌, ◌≢◌, false, IfOk};
-ghost use Rattle.xv_base.specs.Calls.{CountRose};
-ghost use Rattle.xv_io.specs.Io.{TookMore, TookFront};
+ghost use Rattle.std.specs.Prelude.{◌≡◌, ◌<◌, ◌^◌, IfOk};
 ghost use Rattle.xv_job.specs.JobText.{job_text};
 ghost use Rattle.xv_job.specs.Made.{made_job};
-ghost use Rattle.xv_top.specs.Flushed.{IsWhole};
+ghost use Rattle.xv_top.specs.Outcome.{OnInput, ReadsNothing, output_over, outcome};
+ghost use Rattle.xv_top.specs.Promises.{GenPromise};
+ghost use Rattle.xv_top.specs.declared.program.Left.TheVariants.{Nothing};
 
 use crate::output::write_out;
 use std::alloc::Global;
@@ -17,12 +17,9 @@ use xv_job::{make_job, print_job};
 ///
 /// Answers `WriteFault` where the output failed, `NoMemory` for want of memory, where nothing was written.
 pub fn run_gen<O: Sink>(alloc: Global, number: u16, output: &mut O) -> Status
-    ensures fine { result ≡ Status.Fine → TookMore (O.taken output.old) (O.taken output.new) (job_text (made_job number)) }
-    ensures flushed { IsWhole result → O.keeps_back output.new ≡ false }
-    ensures write_fault { result ≡ Status.WriteFault → CountRose (O.faults output.old) (O.faults output.new) }
-    ensures quiet { result ≢ Status.WriteFault → O.faults output.new ≡ O.faults output.old }
-    ensures front { result ≡ Status.WriteFault → TookFront (O.taken output.old) (O.taken output.new) (job_text (made_job number)) }
-    ensures no_other { (result ≢ Status.BadWords) × (result ≢ Status.BadInput) × (result ≢ Status.ReadFault) × (result ≢ Status.Failed) × (result ≢ Status.Cancelled) }
+    // That the number fits its type is told here, since it is a value's own.
+    ensures below { number < 2 ^ 16 }
+    ensures promise { (input : OnInput) → ReadsNothing input → GenPromise number (outcome input (output_over O.taken O.faults O.keeps_back output.old output.new) result Nothing) }
 {
     let text = match made_text(alloc, number) {
         Ok(text) => text,

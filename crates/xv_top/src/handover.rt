@@ -2,15 +2,15 @@
 
 ghost use Rattle.std.specs.Prelude.{◌≡◌, ◌≢◌, ◌≤◌, ◌+◌, ◌⊎◌, ◌++◌, false, Some, All, length, IfOk, IfErr, IfSome, OnOk, OnErr, IsErrOf};
 ghost use Rattle.xv_base.specs.Calls.{CountRose};
-ghost use Rattle.xv_io.specs.Io.{IsAtEnd, GaveAtLeast, TookMore, TookFront};
+ghost use Rattle.xv_io.specs.Io.{IsAtEnd, GaveAtLeast, GaveAtMost, TookMore, TookFront};
 ghost use Rattle.xv_handover.specs.declared.message.Reply.TheVariants.{Failed};
 ghost use Rattle.xv_handover.specs.Lines.{transcript, nodes_text, world_text};
-ghost use Rattle.xv_top.specs.Flushed.{IsWhole};
 ghost use Rattle.xv_top.specs.Refused.{input_limit};
 ghost use Rattle.xv_top.specs.Top.{IsReadFault, RefusedSo};
-ghost use Rattle.xv_top.specs.Handover.{handover_fault, IsHandover, IsHandedOver, IsHandoverFront};
-ghost use Rattle.xv_top.specs.Answers.{IsRefusedBy};
-ghost use Rattle.xv_top.specs.declared.command.Command.TheVariants.{Handover};
+ghost use Rattle.xv_top.specs.Handover.{handover_fault, IsHandover};
+ghost use Rattle.xv_top.specs.Outcome.{input_over, output_over, outcome};
+ghost use Rattle.xv_top.specs.Promises.{HandoverPromise};
+ghost use Rattle.xv_top.specs.declared.program.Left.TheVariants.{Nothing};
 
 use crate::input::{InputError, read_bytes};
 use crate::output::write_out;
@@ -27,17 +27,7 @@ use xv_io::{Sink, Source, WriteFault, write_text};
 /// Answers `BadInput` where the input is refused, `ReadFault` and `WriteFault` where the input or the output failed,
 /// `NoMemory` for want of memory.
 pub fn run_handover<I: Source, O: Sink>(alloc: Global, input: &mut I, output: &mut O) -> Status
-    ensures fine_reads { result ≡ Status.Fine → IsAtEnd (I.left input.new) }
-    ensures fine { result ≡ Status.Fine → IsHandedOver (I.left input.old) (O.taken output.old) (O.taken output.new) }
-    ensures bad_input { result ≡ Status.BadInput → IsRefusedBy Handover (I.left input.old) (O.taken output.old) (O.taken output.new) }
-    ensures bad_input_reads { result ≡ Status.BadInput → IsAtEnd (I.left input.new) ⊎ GaveAtLeast (input_limit + 1) (I.left input.old) (I.left input.new) }
-    ensures read_fault { result ≡ Status.ReadFault → CountRose (I.faults input.old) (I.faults input.new) × (O.taken output.new ≡ O.taken output.old) }
-    ensures flushed { IsWhole result → O.keeps_back output.new ≡ false }
-    ensures quiet_input { result ≢ Status.ReadFault → I.faults input.new ≡ I.faults input.old }
-    ensures write_fault { result ≡ Status.WriteFault → CountRose (O.faults output.old) (O.faults output.new) }
-    ensures quiet_output { result ≢ Status.WriteFault → O.faults output.new ≡ O.faults output.old }
-    ensures front { result ≡ Status.WriteFault → IsHandoverFront (I.left input.old) (O.taken output.old) (O.taken output.new) }
-    ensures no_other { (result ≢ Status.BadWords) × (result ≢ Status.Failed) × (result ≢ Status.Cancelled) }
+    ensures { HandoverPromise (outcome (input_over I.left I.faults input.old input.new) (output_over O.taken O.faults O.keeps_back output.old output.new) result Nothing) }
 {
     let events = match read_script(alloc, input) {
         Ok(events) => events,
@@ -58,6 +48,7 @@ fn read_script<I: Source>(alloc: Global, input: &mut I) -> Result<Vec<WorldEvent
     ensures ended { OnOk result (IsAtEnd (I.left input.new)) }
     ensures refused { IfErr result (λ error. RefusedSo error (λ fault. IfSome (I.left input.old) (λ bytes. handover_fault bytes ≡ Some fault))) }
     ensures refused_reads { IfErr result (λ error. RefusedSo error (λ fault. IsAtEnd (I.left input.new) ⊎ GaveAtLeast (input_limit + 1) (I.left input.old) (I.left input.new))) }
+    ensures most { GaveAtMost (input_limit + 1) (I.left input.old) (I.left input.new) }
     ensures fault { IfErr result (λ error. IsReadFault error → CountRose (I.faults input.old) (I.faults input.new)) }
     ensures quiet { ¬ IsErrOf result InputError.ReadFault → I.faults input.new ≡ I.faults input.old }
 {
@@ -85,6 +76,7 @@ fn parse_script(alloc: Global, text: &[u8]) -> Result<Vec<WorldEvent>, InputErro
 fn hand_over<O: Sink>(alloc: Global, events: &[WorldEvent], output: &mut O) -> Result<(), PlayError>
     ensures written { OnOk result (TookMore (O.taken output.old) (O.taken output.new) (world_text events.now)) }
     ensures front { OnErr result (TookFront (O.taken output.old) (O.taken output.new) (world_text events.now)) }
+    ensures memory { IsErrOf result PlayError.NoMemory → O.taken output.new ≡ O.taken output.old }
     ensures flushed { OnOk result (O.keeps_back output.new ≡ false) }
     ensures fault { IsErrOf result PlayError.WriteFault → CountRose (O.faults output.old) (O.faults output.new) }
     ensures quiet { ¬ IsErrOf result PlayError.WriteFault → O.faults output.new ≡ O.faults output.old }

@@ -3,7 +3,7 @@
 use crate::tests::{Case, plays};
 use std::test::Fail;
 
-const REPEATS: &[u8] =
+pub const REPEATS: &[u8] =
     b"write a\noffer\npass 0\nimage 1\npass 0\nwrite a\npass 1\nrestart a\nwrite a\npass 2\npass 2\nwrite b\nstop\n";
 
 const REPEATS_OUT: &[u8] =

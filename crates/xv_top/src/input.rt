@@ -2,7 +2,7 @@
 
 ghost use Rattle.std.specs.Prelude.{◌≡◌, ◌≤◌, ◌+◌, ◌⊎◌, length, drop, IfSome, IfOk, IfErr, OnOk, IsErrOf};
 ghost use Rattle.xv_base.specs.Calls.{CountRose};
-ghost use Rattle.xv_io.specs.Io.{IsAtEnd, GaveAtLeast};
+ghost use Rattle.xv_io.specs.Io.{IsAtEnd, GaveAtLeast, GaveAtMost};
 ghost use Rattle.xv_job.specs.Written.{job_of};
 ghost use Rattle.xv_script.specs.Script.{IsScriptOf};
 ghost use Rattle.xv_top.specs.Refused.{input_limit};
@@ -32,6 +32,7 @@ pub fn read_input<I: Source>(alloc: Global, input: &mut I) -> Result<(Job, Vec<L
     ensures ended { OnOk result (IsAtEnd (I.left input.new)) }
     ensures refused { IfErr result (λ error. RefusedSo error (λ fault. IfSome (I.left input.old) (λ bytes. IsRefused bytes fault))) }
     ensures refused_reads { IfErr result (λ error. RefusedSo error (λ fault. IsAtEnd (I.left input.new) ⊎ GaveAtLeast (input_limit + 1) (I.left input.old) (I.left input.new))) }
+    ensures most { GaveAtMost (input_limit + 1) (I.left input.old) (I.left input.new) }
     ensures fault { IfErr result (λ error. IsReadFault error → CountRose (I.faults input.old) (I.faults input.new)) }
     ensures quiet { ¬ IsErrOf result InputError.ReadFault → I.faults input.new ≡ I.faults input.old }
 {
@@ -47,6 +48,7 @@ pub fn read_bytes<I: Source>(alloc: Global, input: &mut I) -> Result<Vec<u8>, In
     ensures few { IfOk result (λ text. length text.items ≤ input_limit) }
     ensures ended { OnOk result (IsAtEnd (I.left input.new)) }
     ensures too_long { IfErr result (λ error. RefusedSo error (λ fault. IsTooLong fault (I.left input.old) (I.left input.new))) }
+    ensures most { GaveAtMost (input_limit + 1) (I.left input.old) (I.left input.new) }
     ensures fault { IfErr result (λ error. IsReadFault error → CountRose (I.faults input.old) (I.faults input.new)) }
     ensures quiet { ¬ IsErrOf result InputError.ReadFault → I.faults input.new ≡ I.faults input.old }
 {

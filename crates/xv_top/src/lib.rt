@@ -26,6 +26,8 @@ pub use program::{Left, top};
 #[cfg(test)]
 mod drive_tests;
 #[cfg(test)]
+mod fault_tests;
+#[cfg(test)]
 mod handover_tests;
 #[cfg(test)]
 mod replay_tests;

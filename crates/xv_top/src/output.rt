@@ -6,6 +6,7 @@ ghost use Rattle.xv_io.specs.Io.{TookMore, TookFront};
 ghost use Rattle.xv_job.specs.Written.{job_of};
 ghost use Rattle.xv_parts.specs.Memory.{IsInMemory};
 ghost use Rattle.xv_top.specs.Replay.{totals_text, result_text};
+ghost use Rattle.xv_top.specs.declared.command.Form.TheVariants.{Json};
 
 use crate::command::Form;
 use std::alloc::Global;
@@ -28,6 +29,7 @@ pub fn write_result<O: Sink>(
     ensures whole { OnOk result (TookMore (O.taken output.old) (O.taken output.new) (result_text form (job_of machine.now.job) machine.now.journal)) }
     ensures flushed { OnOk result (O.keeps_back output.new ≡ false) }
     ensures front { TookFront (O.taken output.old) (O.taken output.new) (result_text form (job_of machine.now.job) machine.now.journal) }
+    ensures memory { IsErrOf result JsonFault.NoMemory → (form ≡ Json) × (O.taken output.new ≡ O.taken output.old) }
     ensures fault { IsErrOf result JsonFault.WriteFault → CountRose (O.faults output.old) (O.faults output.new) }
     ensures quiet { ¬ IsErrOf result JsonFault.WriteFault → O.faults output.new ≡ O.faults output.old }
 {
@@ -59,6 +61,7 @@ fn write_totals<O: Sink>(
 ) -> Result<(), JsonFault>
     ensures whole { OnOk result (TookMore (O.taken output.old) (O.taken output.new) (totals_text form totals.now)) }
     ensures front { TookFront (O.taken output.old) (O.taken output.new) (totals_text form totals.now) }
+    ensures memory { IsErrOf result JsonFault.NoMemory → (form ≡ Json) × (O.taken output.new ≡ O.taken output.old) }
     ensures fault { IsErrOf result JsonFault.WriteFault → CountRose (O.faults output.old) (O.faults output.new) }
     ensures quiet { ¬ IsErrOf result JsonFault.WriteFault → O.faults output.new ≡ O.faults output.old }
 {

@@ -1,19 +1,18 @@
 //! The top call of the program.
 
-ghost use Rattle.std.specs.Prelude.{ℕ, ◌≡◌, ◌≢◌, ◌+◌, ◌⊎◌, false, map, IfOk, OnOk, IsErrOf, OnErr, string_bytes};
+ghost use Rattle.std.specs.Prelude.{◌≡◌, ◌≢◌, ◌⊎◌, false, map, IfOk, OnOk, IsErrOf, OnErr, string_bytes};
 ghost use Rattle.xv_base.specs.Calls.{CountRose};
-ghost use Rattle.xv_io.specs.Io.{IsAtEnd, GaveAtLeast, TookMore, TookFront};
+ghost use Rattle.xv_io.specs.Io.{TookMore, TookFront};
 ghost use Rattle.xv_job.specs.Written.{job_of};
 ghost use Rattle.xv_script.specs.Script.{IsScriptOf};
 ghost use Rattle.xv_parts.specs.Memory.{begun_in_memory};
-ghost use Rattle.xv_top.specs.Replay.{output_text};
-ghost use Rattle.xv_top.specs.Flushed.{IsWhole};
-ghost use Rattle.xv_top.specs.Refused.{input_limit, refused_words};
-ghost use Rattle.xv_top.specs.Top.{IsReplayed, IsFrontFor, HasRun};
-ghost use Rattle.xv_top.specs.Command.{words_of, IsNoCommand};
-ghost use Rattle.xv_top.specs.Answers.{IsDone, HasRead, IsRefusedBy, IsFrontBy, IsGoodFor, IsComplete};
+ghost use Rattle.xv_top.specs.Replay.{transcript, output_text};
+ghost use Rattle.xv_top.specs.Top.{HasRun};
+ghost use Rattle.xv_top.specs.Outcome.{input_over, output_over, outcome};
+ghost use Rattle.xv_top.specs.Command.{words_of, IsGoodCommand, IsNoCommand, IsCommand};
+ghost use Rattle.xv_top.specs.Promises.{ReplayPromise, WordsPromise, PromiseOf};
 ghost use Rattle.xv_top.specs.declared.command.Command.{Command as CommandName};
-ghost use Rattle.xv_top.specs.declared.command.Command.TheVariants.{Replay, Gen, Drive};
+ghost use Rattle.xv_top.specs.declared.command.Form.TheVariants.{Json};
 
 use crate::command::{Command, Form, command_of};
 use crate::driving::run_drive;
@@ -45,8 +44,9 @@ pub enum Left {
 /// Both read nothing. `handover` reads a script of two nodes, plays it, and writes what each event answers and the nodes.
 ///
 /// Answers `BadWords` where the words call no command, `BadInput` where the input is refused, `ReadFault` and
-/// `WriteFault` where the input or the output failed, `NoMemory` for want of memory, where what was written is not said.
-/// At every answer but `Fine`, and at every answer of `gen` and `handover`, `left` is nothing.
+/// `WriteFault` where the input or the output failed, `NoMemory` for want of memory, where nothing was written, or with
+/// `--json` the transcript and nothing behind it. At every answer but `Fine`, and at every answer of `gen` and `handover`,
+/// `left` is nothing.
 pub fn top<I: Source, O: Sink>(
     alloc: Global,
     words: &[String],
@@ -54,40 +54,14 @@ pub fn top<I: Source, O: Sink>(
     output: &mut O,
     left: &mut Left,
 ) -> Status
-    // Fine: the words call a command, which read the input to its end, unless it reads nothing; what was written and is
-    // left is the command's.
-    ensures fine_reads { result ≡ Status.Fine → (command : CommandName) × ((map (λ w. string_bytes w) words.now ≡ words_of command) × HasRead command (I.left input.new)) }
-    ensures fine { result ≡ Status.Fine → (command : CommandName) × ((map (λ w. string_bytes w) words.now ≡ words_of command) × IsDone command (I.left input.old) (O.taken output.old) (O.taken output.new) left.new) }
+    // The words call a command, and what it promises of this call holds.
+    ensures promise { (command : CommandName) → IsGoodCommand command → map (λ w. string_bytes w) words.now ≡ words_of command
+        → PromiseOf command (outcome (input_over I.left I.faults input.old input.new) (output_over O.taken O.faults O.keeps_back output.old output.new) result left.new) }
 
-    // `gen` and `drive` read nothing, whatever they answer.
-    ensures gen_reads_nothing { (number : ℕ) → map (λ w. string_bytes w) words.now ≡ words_of (Gen number) → (I.left input.new ≡ I.left input.old) × (I.faults input.new ≡ I.faults input.old) }
-    ensures drive_reads_nothing { (number : ℕ) → map (λ w. string_bytes w) words.now ≡ words_of (Drive number) → (I.left input.new ≡ I.left input.old) × (I.faults input.new ≡ I.faults input.old) }
-
-    // BadWords: exactly where the words call no command, unless the refusal cannot be written.
-    ensures bad_words { result ≡ Status.BadWords → IsNoCommand (map (λ w. string_bytes w) words.now) × TookMore (O.taken output.old) (O.taken output.new) refused_words }
-    ensures words { IsNoCommand (map (λ w. string_bytes w) words.now) → (result ≡ Status.BadWords) ⊎ (result ≡ Status.WriteFault) }
-
-    // BadInput: only where the input is refused, and so is what is written; it was read to its end or past its limit.
-    ensures bad_input { result ≡ Status.BadInput → (command : CommandName) × ((map (λ w. string_bytes w) words.now ≡ words_of command) × IsRefusedBy command (I.left input.old) (O.taken output.old) (O.taken output.new)) }
-    ensures bad_input_reads { result ≡ Status.BadInput → IsAtEnd (I.left input.new) ⊎ GaveAtLeast (input_limit + 1) (I.left input.old) (I.left input.new) }
-
-    // At each status that says that a whole text was written it was handed on too: nothing is kept back.
-    ensures flushed { IsWhole result → O.keeps_back output.new ≡ false }
-
-    // ReadFault and WriteFault: exactly where the input or the output failed, as their counts say.
-    ensures quiet_input { result ≢ Status.ReadFault → I.faults input.new ≡ I.faults input.old }
-    ensures quiet_output { result ≢ Status.WriteFault → O.faults output.new ≡ O.faults output.old }
-    ensures read_fault { result ≡ Status.ReadFault → CountRose (I.faults input.old) (I.faults input.new) × (O.taken output.new ≡ O.taken output.old) }
-    ensures write_fault { result ≡ Status.WriteFault → CountRose (O.faults output.old) (O.faults output.new) }
-    ensures front_of_words { result ≡ Status.WriteFault → IsNoCommand (map (λ w. string_bytes w) words.now) → TookFront (O.taken output.old) (O.taken output.new) refused_words }
-    ensures front_of_text { result ≡ Status.WriteFault → (IsNoCommand (map (λ w. string_bytes w) words.now) → ⊥) → (command : CommandName) × ((map (λ w. string_bytes w) words.now ≡ words_of command) × IsFrontBy command (I.left input.old) (O.taken output.old) (O.taken output.new)) }
-
-    // Completeness: with the words of a command, a good input, and no count of the input or the output that rose, all is
-    // done, but for want of memory.
-    ensures complete { (IsNoCommand (map (λ w. string_bytes w) words.now) → ⊥) → (command : CommandName) × ((map (λ w. string_bytes w) words.now ≡ words_of command) × (IsGoodFor command (I.left input.old) → (CountRose (I.faults input.old) (I.faults input.new) → ⊥) → (CountRose (O.faults output.old) (O.faults output.new) → ⊥) → IsComplete result)) }
-
-    ensures left { (result ≡ Status.Fine → ⊥) → left.new ≡ Left.Nothing }
-    ensures no_other { (result ≢ Status.Failed) × (result ≢ Status.Cancelled) }
+    // Or they call none.
+    ensures words { IsNoCommand (map (λ w. string_bytes w) words.now)
+        → WordsPromise (outcome (input_over I.left I.faults input.old input.new) (output_over O.taken O.faults O.keeps_back output.old output.new) result left.new) }
+    ensures either { IsCommand (map (λ w. string_bytes w) words.now) ⊎ IsNoCommand (map (λ w. string_bytes w) words.now) }
 {
     *left = Left::Nothing;
     match command_of(words) {
@@ -109,18 +83,7 @@ fn run_replay<I: Source, O: Sink>(
     left: &mut Left,
 ) -> Status
     requires { left.old ≡ Left.Nothing }
-    ensures fine_reads { result ≡ Status.Fine → IsAtEnd (I.left input.new) }
-    ensures fine { result ≡ Status.Fine → IsReplayed form (I.left input.old) (O.taken output.old) (O.taken output.new) left.new }
-    ensures bad_input { result ≡ Status.BadInput → IsRefusedBy (Replay form) (I.left input.old) (O.taken output.old) (O.taken output.new) }
-    ensures bad_input_reads { result ≡ Status.BadInput → IsAtEnd (I.left input.new) ⊎ GaveAtLeast (input_limit + 1) (I.left input.old) (I.left input.new) }
-    ensures read_fault { result ≡ Status.ReadFault → CountRose (I.faults input.old) (I.faults input.new) × (O.taken output.new ≡ O.taken output.old) }
-    ensures flushed { IsWhole result → O.keeps_back output.new ≡ false }
-    ensures quiet_input { result ≢ Status.ReadFault → I.faults input.new ≡ I.faults input.old }
-    ensures write_fault { result ≡ Status.WriteFault → CountRose (O.faults output.old) (O.faults output.new) }
-    ensures quiet_output { result ≢ Status.WriteFault → O.faults output.new ≡ O.faults output.old }
-    ensures front { result ≡ Status.WriteFault → IsFrontFor form (I.left input.old) (O.taken output.old) (O.taken output.new) }
-    ensures left { (result ≡ Status.Fine → ⊥) → left.new ≡ Left.Nothing }
-    ensures no_other { (result ≢ Status.BadWords) × (result ≢ Status.Failed) × (result ≢ Status.Cancelled) }
+    ensures { ReplayPromise form (outcome (input_over I.left I.faults input.old input.new) (output_over O.taken O.faults O.keeps_back output.old output.new) result left.new) }
 {
     let (job, lines) = match read_input(alloc, input) {
         Ok(found) => found,
@@ -151,6 +114,7 @@ fn replay<O: Sink>(
     ensures ran { IfOk result (λ m. HasRun job lines.now m) }
     ensures written { OnOk result (TookMore (O.taken output.old) (O.taken output.new) (output_text form (job_of job) lines.now)) }
     ensures front { OnErr result (TookFront (O.taken output.old) (O.taken output.new) (output_text form (job_of job) lines.now)) }
+    ensures memory { IsErrOf result PlayError.NoMemory → (O.taken output.new ≡ O.taken output.old) ⊎ ((form ≡ Json) × TookMore (O.taken output.old) (O.taken output.new) (transcript (job_of job) lines.now)) }
     ensures flushed { OnOk result (O.keeps_back output.new ≡ false) }
     ensures fault { IsErrOf result PlayError.WriteFault → CountRose (O.faults output.old) (O.faults output.new) }
     ensures quiet { ¬ IsErrOf result PlayError.WriteFault → O.faults output.new ≡ O.faults output.old }
@@ -181,6 +145,7 @@ fn play_script<O: Sink>(
     ensures ran { OnOk result (HasRun machine.old.job lines.now machine.new) }
     ensures written { OnOk result (TookMore (O.taken output.old) (O.taken output.new) (output_text form (job_of machine.old.job) lines.now)) }
     ensures front { OnErr result (TookFront (O.taken output.old) (O.taken output.new) (output_text form (job_of machine.old.job) lines.now)) }
+    ensures memory { IsErrOf result PlayError.NoMemory → (form ≡ Json) × TookMore (O.taken output.old) (O.taken output.new) (transcript (job_of machine.old.job) lines.now) }
     ensures flushed { OnOk result (O.keeps_back output.new ≡ false) }
     ensures fault { IsErrOf result PlayError.WriteFault → CountRose (O.faults output.old) (O.faults output.new) }
     ensures quiet { ¬ IsErrOf result PlayError.WriteFault → O.faults output.new ≡ O.faults output.old }

@@ -1,10 +1,10 @@
 //! How words and inputs are refused.
 
-ghost use Rattle.std.specs.Prelude.{◌≡◌, ◌≢◌, ◌⊎◌, ◌≤◌, ◌+◌, ◌++◌, false, length, codes, decimal};
-ghost use Rattle.xv_base.specs.Calls.{CountRose};
-ghost use Rattle.xv_io.specs.Io.{TookMore, TookFront};
-ghost use Rattle.xv_top.specs.Flushed.{IsWhole};
-ghost use Rattle.xv_top.specs.Refused.{why_words, refused_line, refused_words};
+ghost use Rattle.std.specs.Prelude.{◌≡◌, ◌⊎◌, ◌≤◌, ◌+◌, ◌++◌, length, codes, decimal};
+ghost use Rattle.xv_top.specs.Refused.{why_words, refused_line};
+ghost use Rattle.xv_top.specs.Outcome.{OnInput, ReadsNothing, WritesAll, WritesFront, output_over, outcome};
+ghost use Rattle.xv_top.specs.Promises.{WordsPromise};
+ghost use Rattle.xv_top.specs.declared.program.Left.TheVariants.{Nothing};
 
 use crate::output::write_out;
 use xv_base::{LineBuf, LineFault, LineWhy, Status};
@@ -12,12 +12,7 @@ use xv_io::Sink;
 
 /// Writes that the words call no command.
 pub fn refuse_words<O: Sink>(output: &mut O) -> Status
-    ensures answers { (result ≡ Status.BadWords) ⊎ (result ≡ Status.WriteFault) }
-    ensures written { result ≡ Status.BadWords → TookMore (O.taken output.old) (O.taken output.new) refused_words }
-    ensures front { result ≡ Status.WriteFault → TookFront (O.taken output.old) (O.taken output.new) refused_words }
-    ensures flushed { IsWhole result → O.keeps_back output.new ≡ false }
-    ensures fault { result ≡ Status.WriteFault → CountRose (O.faults output.old) (O.faults output.new) }
-    ensures quiet { result ≢ Status.WriteFault → O.faults output.new ≡ O.faults output.old }
+    ensures { (input : OnInput) → ReadsNothing input → WordsPromise (outcome input (output_over O.taken O.faults O.keeps_back output.old output.new) result Nothing) }
 {
     match write_out(output, b"refused words\n") {
         Ok(()) => Status::BadWords,
@@ -28,11 +23,8 @@ pub fn refuse_words<O: Sink>(output: &mut O) -> Status
 /// Writes why an input is refused.
 pub fn refuse_input<O: Sink>(fault: LineFault, output: &mut O) -> Status
     ensures answers { (result ≡ Status.BadInput) ⊎ (result ≡ Status.WriteFault) }
-    ensures written { result ≡ Status.BadInput → TookMore (O.taken output.old) (O.taken output.new) (refused_line fault) }
-    ensures front { result ≡ Status.WriteFault → TookFront (O.taken output.old) (O.taken output.new) (refused_line fault) }
-    ensures flushed { IsWhole result → O.keeps_back output.new ≡ false }
-    ensures fault { result ≡ Status.WriteFault → CountRose (O.faults output.old) (O.faults output.new) }
-    ensures quiet { result ≢ Status.WriteFault → O.faults output.new ≡ O.faults output.old }
+    ensures whole { result ≡ Status.BadInput → WritesAll (output_over O.taken O.faults O.keeps_back output.old output.new) (refused_line fault) }
+    ensures front { result ≡ Status.WriteFault → WritesFront (output_over O.taken O.faults O.keeps_back output.old output.new) (refused_line fault) }
 {
     match write_out(output, print_refusal(fault).bytes()) {
         Ok(()) => Status::BadInput,

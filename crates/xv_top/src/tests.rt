@@ -8,7 +8,7 @@ use std::process::Abort;
 use std::test::Fail;
 use xv_io::{MemSink, MemSource};
 
-const JOB: &[u8] =
+pub const JOB: &[u8] =
     b"job 1\npages 1 16\ndisk 2 16\nstreams 1\ncredit 4\noutbox 4\nregion 1\nrounds 1\ndirty 0\nguest\nend\n";
 
 const EMPTY: &[u8] =
@@ -31,7 +31,7 @@ const CANCELLED: &[u8] =
 const CANCELLED_OUT: &[u8] =
     b"stun wait cancel-due\ncancel wait not-now\nguest 0 done\nguest 0 wait cancel-due\nround done 1\npage done 0 1\nstun done 0\nguest 0 wait cancel-due\nswitch wait cancel-due\ncancel done\nguest 0 read aa00\nsend 0 wait not-now\nphase cancelled\nowner source\nhistory 2\nfaulted 0\njournal 6\nstun 1\ncopied 0\nrounds 1\nmessages 1\nmirrors 0\napplied 0\ncredit 2\nsrc 0 aa000000000000000000000000000000\n";
 
-const READ: &[u8] =
+pub const READ: &[u8] =
     b"job 1\npages 1 16\ndisk 2 16\ndisk 1 32\nstreams 1\ncredit 4\noutbox 4\nregion 1\nrounds 1\ndirty 0\ninit 1 5a\nguest\nrd 0 0 2 3\nwr 1 0 1 0102\nend\nguest 0\nguest 0\nguest 0\nstop\n";
 
 const READ_OUT: &[u8] =
@@ -215,10 +215,20 @@ fn status(alloc: Global, words: &[String], source: &mut MemSource, sink: &mut Me
     status_of(alloc, words, source, sink, &mut left)
 }
 
-/// The words of a case.
-fn words_of(alloc: Global, case: &Case) -> Result<Vec<String>, AllocError> {
+/// The status of a run with these words.
+pub fn status_by(
+    alloc: Global,
+    words: &[&str],
+    source: &mut MemSource,
+    sink: &mut MemSink,
+) -> Result<u8, Fail> {
+    let words = words_of(alloc, words)?;
+    Ok(status(alloc, &words, source, sink))
+}
+
+fn words_of(alloc: Global, all: &[&str]) -> Result<Vec<String>, AllocError> {
     let mut words = Vec::new(alloc);
-    for word in case.words {
+    for word in all {
         words.push(String::from_str(alloc, word)?)?;
     }
     Ok(words)
@@ -226,10 +236,9 @@ fn words_of(alloc: Global, case: &Case) -> Result<Vec<String>, AllocError> {
 
 /// The status of a run, and what it wrote; the source gives one byte a read.
 fn outcome(alloc: Global, case: &Case) -> Result<(u8, Vec<u8>), Fail> {
-    let words = words_of(alloc, case)?;
     let mut source = MemSource::new(alloc, case.input, 1, case.fails)?;
     let mut sink = MemSink::new(alloc, case.room, 64, &[])?;
-    let status = status(alloc, &words, &mut source, &mut sink);
+    let status = status_by(alloc, case.words, &mut source, &mut sink)?;
     Ok((status, sink.bytes().to_vec(alloc)?))
 }
 

@@ -1,9 +1,10 @@
-use Rattle.std.proofs.Common.{List, refl, sym, subst}
+use Rattle.std.proofs.Common.{List, refl, sym, ◌∙◌, subst, inr}
 use Rattle.std.specs.Prelude.{IfSome}
 use Rattle.xv_job.specs.Written.{job_of}
 use Rattle.xv_script.specs.Script.{IsScriptOf}
 use Rattle.xv_script.specs.declared.line.Line.{Line}
 use Rattle.xv_top.specs.Top.{IsInput}
+use Rattle.xv_top.proofs.Statuses.{replay-promise, short-or-none, ok-no_err, err-no_err}
 use Rattle.xv_top.proofs.program.run_replay.Goals as goal
 
 pub replay-requires : goal.replay-requires
@@ -11,7 +12,37 @@ replay-requires g c = record {
   script = subst (λ (lines : List Line). IsScriptOf (job_of c.in-Ok.found.0) lines) (sym c.deref.ensures.value) c.in-Ok.ensures.script;
 }
 
-pub returns-in-Ok-replay-clause-fine : goal.returns-in-Ok-replay-clause-fine
-returns-in-Ok-replay-clause-fine g c = λ _.
+pub returns-in-Ok-replay : goal.returns-in-Ok-replay
+returns-in-Ok-replay g c =
     let text = subst (λ (lines : List Line). IfSome (g.I.Source.left c.args.input.now) (λ bytes. IsInput bytes c.in-Ok.found.0 lines)) (sym c.deref.ensures.value) c.in-Ok.ensures.text in
-    record { written = c.in-Ok.found.0; lines = c.deref.result.now; migration = c.in-Ok-replay.machine; input = text; output = c.in-Ok-replay.ensures.written; has_run = c.in-Ok-replay.ensures.ran; is_left = refl }
+    replay-promise c.args.form _ c.read_input.ensures.most (λ not. absurd (not refl))
+    (record {
+      written = c.in-Ok.found.0;
+      lines = c.deref.result.now;
+      migration = c.in-Ok-replay.machine;
+      read = record { ended = c.in-Ok.ensures.ended; quiet = c.read_input.ensures.quiet (ok-no_err _ _ _ c.in-Ok.is) };
+      input = text;
+      output = record { taken = c.in-Ok-replay.ensures.written; handed_on = c.in-Ok-replay.ensures.flushed; quiet = c.replay.ensures.quiet (ok-no_err _ _ _ c.in-Ok-replay.is) };
+      has_run = c.in-Ok-replay.ensures.ran;
+      is_left = refl;
+    })
+
+pub returns-in-Err-WriteFault : goal.returns-in-Err-WriteFault
+returns-in-Err-WriteFault g c =
+    let text = subst (λ (lines : List Line). IfSome (g.I.Source.left c.args.input.now) (λ bytes. IsInput bytes c.in-Ok.found.0 lines)) (sym c.deref.ensures.value) c.in-Ok.ensures.text in
+    let failed = c.replay.ensures.fault (cc (c.in-Err-WriteFault.is, c.in-Err-WriteFault.field-0-is)) in
+    replay-promise c.args.form _ c.read_input.ensures.most (λ _. c.requires) (
+      c.read_input.ensures.quiet (ok-no_err _ _ _ c.in-Ok.is),
+      (
+        failed,
+        inr (record { written = c.in-Ok.found.0; lines = c.deref.result.now; input = text; output = record { front = c.in-Err-WriteFault.ensures.front; failed = failed } }),
+      ),
+    )
+
+pub returns : goal.returns
+returns g c =
+    let text = subst (λ (lines : List Line). IfSome (g.I.Source.left c.args.input.now) (λ bytes. IsInput bytes c.in-Ok.found.0 lines)) (sym c.deref.ensures.value) c.in-Ok.ensures.text in
+    let short = c.replay.ensures.memory (cc (c.in-Err-NoMemory-replay.is, c.in-Err-NoMemory-replay.field-0-is)) in
+    let quiet = c.replay.ensures.quiet (err-no_err _ c.in-Err-NoMemory-replay.field-0 _ c.in-Err-NoMemory-replay.is (λ same. (let impossible = sym c.in-Err-NoMemory-replay.field-0-is ∙ same in cc))) in
+    replay-promise c.args.form _ c.read_input.ensures.most (λ _. c.requires)
+    (short-or-none c.args.form _ c.in-Ok.found.0 c.deref.result.now (c.read_input.ensures.quiet (ok-no_err _ _ _ c.in-Ok.is)) quiet text short)

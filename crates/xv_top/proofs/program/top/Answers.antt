@@ -1,57 +1,26 @@
-use Rattle.std.proofs.Common.{ap}
+use Rattle.std.proofs.Common.{refl, ap}
 use Rattle.xv_top.specs.Command.{words_of}
 use Rattle.xv_top.specs.declared.command.Command.TheVariants.{Replay, Gen, Handover, Drive}
-use Rattle.xv_top.proofs.Complete.{is-complete, not-refused}
+use Rattle.xv_top.proofs.Commands.{promise-of}
 use Rattle.xv_top.proofs.program.top.Goals as goal
 
-pub returns-in-Some-Replay-clause-complete : goal.returns-in-Some-Replay-clause-complete
-returns-in-Some-Replay-clause-complete g c =
-    let run = c.run_replay.ensures in
-    λ known. (
-      Replay c.in-Some-Replay.form,
-      (
-        cc (c.in-Some-Replay.ensures.found, ap words_of c.in-Some-Replay.field-0-is),
-        λ good input output.
-            is-complete c.run_replay.result run.no_other.0
-            (λ is. not-refused (Replay c.in-Some-Replay.form) (g.I.Source.left c.args.input.now) (g.O.Sink.taken c.args.output.now) (g.O.Sink.taken c.run_replay.new.output) good.0 good.1 good.2 (run.bad_input is))
-            (λ is. input (run.read_fault is).0) (λ is. output (run.write_fault is)) run.no_other.1 run.no_other.2,
-      ),
-    )
+pub returns-in-Some-Replay-clause-promise : goal.returns-in-Some-Replay-clause-promise
+returns-in-Some-Replay-clause-promise g c = λ command good is.
+    promise-of _ (Replay c.in-Some-Replay.form) command _ tt (cc (c.in-Some-Replay.ensures.found, ap words_of c.in-Some-Replay.field-0-is)) c.run_replay.ensures good is
 
-pub returns-in-Some-Gen-clause-complete : goal.returns-in-Some-Gen-clause-complete
-returns-in-Some-Gen-clause-complete g c =
-    let run = c.run_gen.ensures in
-    λ known. (
-      Gen c.in-Some-Gen.number,
-      (
-        cc (c.in-Some-Gen.ensures.found, ap words_of c.in-Some-Gen.field-0-is),
-        λ good input output.
-            is-complete c.run_gen.result run.no_other.0 run.no_other.1 run.no_other.2 (λ is. output (run.write_fault is)) run.no_other.3 run.no_other.4,
-      ),
-    )
+pub returns-in-Some-Gen-clause-promise : goal.returns-in-Some-Gen-clause-promise
+returns-in-Some-Gen-clause-promise g c = λ command good is.
+    promise-of _ (Gen c.in-Some-Gen.number) command _ c.run_gen.ensures.below (cc (c.in-Some-Gen.ensures.found, ap words_of c.in-Some-Gen.field-0-is))
+    (c.run_gen.ensures.promise _ (record { stays = refl; quiet = refl })) good is
 
-pub returns-in-Some-Handover-clause-complete : goal.returns-in-Some-Handover-clause-complete
-returns-in-Some-Handover-clause-complete g c =
-    let run = c.run_handover.ensures in
-    λ known. (
-      Handover,
-      (
-        cc (c.in-Some-Handover.ensures.found, ap words_of c.in-Some-Handover.field-0-is),
-        λ good input output.
-            is-complete c.run_handover.result run.no_other.0
-            (λ is. not-refused Handover (g.I.Source.left c.args.input.now) (g.O.Sink.taken c.args.output.now) (g.O.Sink.taken c.run_handover.new.output) good.0 good.1 good.2 (run.bad_input is))
-            (λ is. input (run.read_fault is).0) (λ is. output (run.write_fault is)) run.no_other.1 run.no_other.2,
-      ),
-    )
+pub returns-in-Some-Handover-clause-promise : goal.returns-in-Some-Handover-clause-promise
+returns-in-Some-Handover-clause-promise g c = λ command good is.
+    promise-of _ Handover command _ tt (cc (c.in-Some-Handover.ensures.found, ap words_of c.in-Some-Handover.field-0-is)) c.run_handover.ensures good is
 
-pub returns-in-Some-Drive-clause-complete : goal.returns-in-Some-Drive-clause-complete
-returns-in-Some-Drive-clause-complete g c =
-    let run = c.run_drive.ensures in
-    λ known. (
-      Drive c.in-Some-Drive.number,
-      (
-        cc (c.in-Some-Drive.ensures.found, ap words_of c.in-Some-Drive.field-0-is),
-        λ good input output.
-            is-complete c.run_drive.result run.no_other.0 run.no_other.1 run.no_other.2 (λ is. output (run.write_fault is)) run.no_other.3 run.no_other.4,
-      ),
-    )
+pub returns-in-Some-Drive-clause-promise : goal.returns-in-Some-Drive-clause-promise
+returns-in-Some-Drive-clause-promise g c = λ command good is.
+    promise-of _ (Drive c.in-Some-Drive.number) command _ c.run_drive.ensures.below (cc (c.in-Some-Drive.ensures.found, ap words_of c.in-Some-Drive.field-0-is))
+    (c.run_drive.ensures.promise _ (record { stays = refl; quiet = refl })) good is
+
+pub returns-in-None-clause-words : goal.returns-in-None-clause-words
+returns-in-None-clause-words g c = λ _. c.refuse_words.ensures _ (record { stays = refl; quiet = refl })
