@@ -34,15 +34,18 @@ AreAnswered job before (Step e ∷ ls) after text =
 AreAnswered job before (Ask unit ∷ ls) after text =
     (words : List ℕ) × (rest : List ℕ) × AreAnswered job before ls after rest × (text ≡ words ++ rest)
 
--- the input is the text of the migration's job and of the lines that were answered; behind their answers and a report stands
--- the image of what the devices tell
-pub record PrintsAll (bytes old new : Option (List ℕ)) (m : Seen) : Type 0 where
-  pub lines : List Line
+-- the answers of lines were taken, then a report, then the image of what the devices tell
+pub record IsPrinted (lines : List Line) (old new : Option (List ℕ)) (m : Seen) : Type 0 where
   pub answers : List ℕ
   pub report : List ℕ
-  pub input : IfSome bytes (λ xs. xs ≡ input_text m.job lines)
   pub answered : AreAnswered (job_of m.job) [] lines m.journal answers
   pub output : TookMore old new (answers ++ report ++ image_text (told_contents m.source) (told_contents m.dest))
+
+-- so they were, and the input is the text of the migration's job and of those lines
+pub record PrintsAll (bytes old new : Option (List ℕ)) (m : Seen) : Type 0 where
+  pub lines : List Line
+  pub input : IfSome bytes (λ xs. xs ≡ input_text m.job lines)
+  pub printed : IsPrinted lines old new m
 
 -- until the switchover a destination unit that was not written is all zero
 pub record IsZeroElsewhere (m : Seen) : Type 0 where

@@ -9,6 +9,10 @@ ghost use Rattle.xv_model.specs.Guest.{ended};
 ghost use Rattle.xv_job.specs.Written.{job_of};
 ghost use Rattle.xv_job.specs.Made.{made_job};
 ghost use Rattle.xv_guest.specs.Plain.{IsUnmigrated};
+ghost use Rattle.xv_core.specs.Seen.{Seen};
+ghost use Rattle.xv_core.specs.Losing.{LosesNothing};
+ghost use Rattle.xv_top.specs.Printed.{IsZeroElsewhere};
+ghost use Rattle.xv_top.specs.declared.program.Left.TheVariants.{First};
 ghost use Rattle.xv_parts.specs.Memory.{IsInMemory, begun_in_memory};
 ghost use Rattle.xv_top.specs.Flushed.{IsWhole};
 ghost use Rattle.xv_top.specs.Driven.{agreeing, agree_line, agreed_text, drive_text, HasDriven, AreTheGuests, HasHandedOver, IsDriven};
@@ -34,6 +38,7 @@ use xv_report::write_report;
 pub fn run_drive<O: Sink>(alloc: Global, number: u16, output: &mut O, left: &mut Left) -> Status
     requires { left.old ≡ Left.Nothing }
     ensures fine { result ≡ Status.Fine → IsDriven number (O.taken output.old) (O.taken output.new) left.new }
+    ensures loses_nothing { (m : Seen) → left.new ≡ First m → LosesNothing m × IsZeroElsewhere m }
     ensures flushed { IsWhole result → O.keeps_back output.new ≡ false }
     ensures write_fault { result ≡ Status.WriteFault → CountRose (O.faults output.old) (O.faults output.new) }
     ensures quiet { result ≢ Status.WriteFault → O.faults output.new ≡ O.faults output.old }
@@ -55,6 +60,7 @@ pub fn run_drive<O: Sink>(alloc: Global, number: u16, output: &mut O, left: &mut
 fn drive<O: Sink>(alloc: Global, number: u16, output: &mut O) -> Result<Machine, PlayError>
     ensures driven { IfOk result (λ m. HasDriven (made_job number) m) }
     ensures handed_over { IfOk result (λ m. HasHandedOver m) }
+    ensures in_memory { IfOk result (λ m. IsInMemory m) }
     ensures written { OnOk result (TookMore (O.taken output.old) (O.taken output.new) (drive_text (made_job number))) }
     ensures front { OnErr result (TookFront (O.taken output.old) (O.taken output.new) (drive_text (made_job number))) }
     ensures flushed { OnOk result (O.keeps_back output.new ≡ false) }

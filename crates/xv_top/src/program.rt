@@ -5,7 +5,12 @@ ghost use Rattle.xv_base.specs.Calls.{CountRose};
 ghost use Rattle.xv_io.specs.Io.{IsAtEnd, GaveAtLeast, TookMore, TookFront};
 ghost use Rattle.xv_job.specs.Written.{job_of};
 ghost use Rattle.xv_script.specs.Script.{IsScriptOf};
-ghost use Rattle.xv_parts.specs.Memory.{begun_in_memory};
+ghost use Rattle.xv_core.specs.Seen.{Seen};
+ghost use Rattle.xv_core.specs.Losing.{LosesNothing};
+ghost use Rattle.xv_parts.specs.Memory.{IsInMemory, begun_in_memory};
+ghost use Rattle.xv_top.specs.Printed.{IsPrinted, PrintsAll, IsZeroElsewhere};
+ghost use Rattle.xv_top.specs.declared.command.Form.{Form as FormName};
+ghost use Rattle.xv_top.specs.declared.program.Left.TheVariants.{First};
 ghost use Rattle.xv_top.specs.Replay.{output_text};
 ghost use Rattle.xv_top.specs.Flushed.{IsWhole};
 ghost use Rattle.xv_top.specs.Refused.{input_limit, refused_words};
@@ -59,6 +64,13 @@ pub fn top<I: Source, O: Sink>(
     ensures fine_reads { result ≡ Status.Fine → (command : CommandName) × ((map (λ w. string_bytes w) words.now ≡ words_of command) × HasRead command (I.left input.new)) }
     ensures fine { result ≡ Status.Fine → (command : CommandName) × ((map (λ w. string_bytes w) words.now ≡ words_of command) × IsDone command (I.left input.old) (O.taken output.old) (O.taken output.new) left.new) }
 
+    // No write of a guest is lost: whatever migration is left, said by what its journal tells.
+    ensures loses_nothing { (m : Seen) → left.new ≡ First m → LosesNothing m × IsZeroElsewhere m }
+
+    // `replay` prints that journal: its entries are those of the lines answered, each line says its answer with what the
+    // unmigrated guest reads there, and the image is what the devices hold; the input is the text of that job and those lines.
+    ensures prints_all { (form : FormName) (m : Seen) → map (λ w. string_bytes w) words.now ≡ words_of (Replay form) → left.new ≡ First m → PrintsAll (I.left input.old) (O.taken output.old) (O.taken output.new) m }
+
     // `gen` and `drive` read nothing, whatever they answer.
     ensures gen_reads_nothing { (number : ℕ) → map (λ w. string_bytes w) words.now ≡ words_of (Gen number) → (I.left input.new ≡ I.left input.old) × (I.faults input.new ≡ I.faults input.old) }
     ensures drive_reads_nothing { (number : ℕ) → map (λ w. string_bytes w) words.now ≡ words_of (Drive number) → (I.left input.new ≡ I.left input.old) × (I.faults input.new ≡ I.faults input.old) }
@@ -111,6 +123,8 @@ fn run_replay<I: Source, O: Sink>(
     requires { left.old ≡ Left.Nothing }
     ensures fine_reads { result ≡ Status.Fine → IsAtEnd (I.left input.new) }
     ensures fine { result ≡ Status.Fine → IsReplayed form (I.left input.old) (O.taken output.old) (O.taken output.new) left.new }
+    ensures loses_nothing { (m : Seen) → left.new ≡ First m → LosesNothing m × IsZeroElsewhere m }
+    ensures prints_all { (m : Seen) → left.new ≡ First m → PrintsAll (I.left input.old) (O.taken output.old) (O.taken output.new) m }
     ensures bad_input { result ≡ Status.BadInput → IsRefusedBy (Replay form) (I.left input.old) (O.taken output.old) (O.taken output.new) }
     ensures bad_input_reads { result ≡ Status.BadInput → IsAtEnd (I.left input.new) ⊎ GaveAtLeast (input_limit + 1) (I.left input.old) (I.left input.new) }
     ensures read_fault { result ≡ Status.ReadFault → CountRose (I.faults input.old) (I.faults input.new) × (O.taken output.new ≡ O.taken output.old) }
@@ -149,6 +163,8 @@ fn replay<O: Sink>(
 ) -> Result<Machine, PlayError>
     requires script { IsScriptOf (job_of job) lines.now }
     ensures ran { IfOk result (λ m. HasRun job lines.now m) }
+    ensures in_memory { IfOk result (λ m. IsInMemory m) }
+    ensures printed { IfOk result (λ m. IsPrinted lines.now (O.taken output.old) (O.taken output.new) m) }
     ensures written { OnOk result (TookMore (O.taken output.old) (O.taken output.new) (output_text form (job_of job) lines.now)) }
     ensures front { OnErr result (TookFront (O.taken output.old) (O.taken output.new) (output_text form (job_of job) lines.now)) }
     ensures flushed { OnOk result (O.keeps_back output.new ≡ false) }
@@ -179,6 +195,8 @@ fn play_script<O: Sink>(
     requires begun { machine.old ≡ begun_in_memory machine.old.job }
     requires script { IsScriptOf (job_of machine.old.job) lines.now }
     ensures ran { OnOk result (HasRun machine.old.job lines.now machine.new) }
+    ensures in_memory { OnOk result (IsInMemory machine.new) }
+    ensures printed { OnOk result (IsPrinted lines.now (O.taken output.old) (O.taken output.new) machine.new) }
     ensures written { OnOk result (TookMore (O.taken output.old) (O.taken output.new) (output_text form (job_of machine.old.job) lines.now)) }
     ensures front { OnErr result (TookFront (O.taken output.old) (O.taken output.new) (output_text form (job_of machine.old.job) lines.now)) }
     ensures flushed { OnOk result (O.keeps_back output.new ≡ false) }
