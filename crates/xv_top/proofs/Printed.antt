@@ -1,5 +1,5 @@
 -- What is printed and left, by what the journal tells.
-use Rattle.std.specs.Prelude.{◌≡◌, ℕ, true, List, [], ◌∷◌, ◌++◌, length, drop, Option, Some, None, IfSome, unwrap_or}
+use Rattle.std.specs.Prelude.{◌≡◌, ◌<◌, ℕ, true, List, [], ◌∷◌, ◌++◌, length, drop, Option, Some, None, IfSome, unwrap_or, ◌^◌, decimal}
 use Rattle.std.proofs.Common.{refl, ap, sym, subst, ◌∙◌, arith, append_assoc}
 use Rattle.std.proofs.lemmas.List.FromFn.{get_or-map-range_with_len}
 use Rattle.xv_base.specs.Units.{size}
@@ -33,6 +33,9 @@ use Rattle.xv_parts.specs.Sides.{sources, dests}
 use Rattle.xv_parts.proofs.Holding.{source-holds, dest-holds}
 use Rattle.xv_top.specs.Top.{IsInput}
 use Rattle.xv_top.specs.Replay.{input_text, totals_text, result_text}
+use Rattle.std.proofs.lemmas.Fmt.{decimal_injective}
+use Rattle.xv_top.specs.Command.{words_of}
+use Rattle.xv_top.specs.declared.command.Command.TheVariants.{Drive}
 use Rattle.xv_top.specs.declared.command.Form.{Form}
 use Rattle.xv_top.specs.declared.program.Left.TheVariants.{First}
 use Rattle.xv_top.specs.Playing.{ArePlayed}
@@ -119,3 +122,9 @@ pub prints-all : (bytes old new : Option (List ℕ)) (w : Written) (m : Seen) (l
 prints-all None old new w m lines of_job input printed = record { lines = lines; input = tt; printed = printed }
 prints-all (Some xs) old new w m lines of_job input printed =
     record { lines = lines; input = input.text ∙ ap (λ (x : Written). input_text x lines) (sym of_job); printed = printed }
+
+-- a number that is said in words is one
+pub said-number : (words : List (List ℕ)) (n k : ℕ) → n < 2 ^ 16 → k < 2 ^ 16 → words ≡ words_of (Drive n) → words ≡ words_of (Drive k) → n ≡ k
+said-number words n k small few is same =
+    let said : decimal n ≡ decimal k = cc in
+    decimal_injective n k (omega arith) (omega arith) said

@@ -1,6 +1,6 @@
 //! The command `drive`: the job that a number makes, driven to its end.
 
-ghost use Rattle.std.specs.Prelude.{◌≡◌, ◌≢◌, ◌≤◌, ℕ, false, length, IfOk, OnOk, OnErr, IsErrOf};
+ghost use Rattle.std.specs.Prelude.{◌≡◌, ◌≢◌, ◌≤◌, ◌<◌, ◌^◌, ℕ, false, length, IfOk, OnOk, OnErr, IsErrOf};
 ghost use Rattle.xv_base.specs.Units.{units};
 ghost use Rattle.xv_base.specs.Calls.{CountRose};
 ghost use Rattle.xv_io.specs.Io.{TookMore, TookFront};
@@ -11,7 +11,7 @@ ghost use Rattle.xv_job.specs.Made.{made_job};
 ghost use Rattle.xv_guest.specs.Plain.{IsUnmigrated};
 ghost use Rattle.xv_core.specs.Seen.{Seen};
 ghost use Rattle.xv_core.specs.Losing.{LosesNothing};
-ghost use Rattle.xv_top.specs.Printed.{IsZeroElsewhere};
+ghost use Rattle.xv_top.specs.Printed.{IsZeroElsewhere, HasEndedAll};
 ghost use Rattle.xv_top.specs.declared.program.Left.TheVariants.{First};
 ghost use Rattle.xv_parts.specs.Memory.{IsInMemory, begun_in_memory};
 ghost use Rattle.xv_top.specs.Flushed.{IsWhole};
@@ -39,6 +39,8 @@ pub fn run_drive<O: Sink>(alloc: Global, number: u16, output: &mut O, left: &mut
     requires { left.old ≡ Left.Nothing }
     ensures fine { result ≡ Status.Fine → IsDriven number (O.taken output.old) (O.taken output.new) left.new }
     ensures loses_nothing { (m : Seen) → left.new ≡ First m → LosesNothing m × IsZeroElsewhere m }
+    ensures number { number < 2 ^ 16 }
+    ensures ends_all { (m : Seen) → left.new ≡ First m → (m.job ≡ made_job number) × HasEndedAll m }
     ensures flushed { IsWhole result → O.keeps_back output.new ≡ false }
     ensures write_fault { result ≡ Status.WriteFault → CountRose (O.faults output.old) (O.faults output.new) }
     ensures quiet { result ≢ Status.WriteFault → O.faults output.new ≡ O.faults output.old }

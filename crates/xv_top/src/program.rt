@@ -1,14 +1,15 @@
 //! The top call of the program.
 
-ghost use Rattle.std.specs.Prelude.{ℕ, ◌≡◌, ◌≢◌, ◌+◌, ◌⊎◌, false, map, IfOk, OnOk, IsErrOf, OnErr, string_bytes};
+ghost use Rattle.std.specs.Prelude.{ℕ, ◌≡◌, ◌≢◌, ◌<◌, ◌+◌, ◌^◌, ◌⊎◌, false, map, IfOk, OnOk, IsErrOf, OnErr, string_bytes};
 ghost use Rattle.xv_base.specs.Calls.{CountRose};
 ghost use Rattle.xv_io.specs.Io.{IsAtEnd, GaveAtLeast, TookMore, TookFront};
 ghost use Rattle.xv_job.specs.Written.{job_of};
+ghost use Rattle.xv_job.specs.Made.{made_job};
 ghost use Rattle.xv_script.specs.Script.{IsScriptOf};
 ghost use Rattle.xv_core.specs.Seen.{Seen};
 ghost use Rattle.xv_core.specs.Losing.{LosesNothing};
 ghost use Rattle.xv_parts.specs.Memory.{IsInMemory, begun_in_memory};
-ghost use Rattle.xv_top.specs.Printed.{IsPrinted, PrintsAll, IsZeroElsewhere};
+ghost use Rattle.xv_top.specs.Printed.{IsPrinted, PrintsAll, IsZeroElsewhere, HasEndedAll};
 ghost use Rattle.xv_top.specs.declared.command.Form.{Form as FormName};
 ghost use Rattle.xv_top.specs.declared.program.Left.TheVariants.{First};
 ghost use Rattle.xv_top.specs.Replay.{output_text};
@@ -70,6 +71,9 @@ pub fn top<I: Source, O: Sink>(
     // `replay` prints that journal: its entries are those of the lines answered, each line says its answer with what the
     // unmigrated guest reads there, and the image is what the devices hold; the input is the text of that job and those lines.
     ensures prints_all { (form : FormName) (m : Seen) → map (λ w. string_bytes w) words.now ≡ words_of (Replay form) → left.new ≡ First m → PrintsAll (I.left input.old) (O.taken output.old) (O.taken output.new) m }
+
+    // `drive` brings its job's guests over, each to its end.
+    ensures ends_all { (number : ℕ) (m : Seen) → number < 2 ^ 16 → map (λ w. string_bytes w) words.now ≡ words_of (Drive number) → left.new ≡ First m → (m.job ≡ made_job number) × HasEndedAll m }
 
     // `gen` and `drive` read nothing, whatever they answer.
     ensures gen_reads_nothing { (number : ℕ) → map (λ w. string_bytes w) words.now ≡ words_of (Gen number) → (I.left input.new ≡ I.left input.old) × (I.faults input.new ≡ I.faults input.old) }

@@ -1,4 +1,8 @@
-use Rattle.std.proofs.Common.{ap}
+use Rattle.std.proofs.Common.{◌≡◌, ℕ, ap, subst}
+use Rattle.std.specs.Prelude.{map, string_bytes}
+use Rattle.xv_job.specs.Made.{made_job}
+use Rattle.xv_top.specs.Printed.{HasEndedAll}
+use Rattle.xv_top.proofs.Printed.{said-number}
 use Rattle.xv_top.specs.Command.{words_of}
 use Rattle.xv_top.specs.declared.command.Command.TheVariants.{Replay, Gen, Handover, Drive}
 use Rattle.xv_top.proofs.Complete.{is-complete, not-refused}
@@ -55,3 +59,9 @@ returns-in-Some-Drive-clause-complete g c =
             is-complete c.run_drive.result run.no_other.0 run.no_other.1 run.no_other.2 (λ is. output (run.write_fault is)) run.no_other.3 run.no_other.4,
       ),
     )
+
+pub returns-in-Some-Drive-clause-ends_all : goal.returns-in-Some-Drive-clause-ends_all
+returns-in-Some-Drive-clause-ends_all g c = λ number m small words is.
+    let own : map (λ w. string_bytes w) c.args.words.now ≡ words_of (Drive c.in-Some-Drive.number) = cc (c.in-Some-Drive.ensures.found, ap words_of c.in-Some-Drive.field-0-is) in
+    let same = said-number (map (λ w. string_bytes w) c.args.words.now) c.in-Some-Drive.number number c.run_drive.ensures.number small own words in
+    subst (λ (n : ℕ). (m.job ≡ made_job n) × HasEndedAll m) same (c.run_drive.ensures.ends_all m is)
