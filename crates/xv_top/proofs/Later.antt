@@ -16,7 +16,9 @@ use Rattle.xv_job.specs.Written.{Written, job_of}
 use Rattle.xv_core.specs.Seen.{Seen, view_of}
 use Rattle.xv_core.specs.Rising.{Rises, TakesRise}
 use Rattle.xv_core.specs.Stepped.{IsStep, KeepsUnwritten, TellsOn}
-use Rattle.xv_core.specs.Keeping.{IsKept}
+use Rattle.xv_core.specs.Keeping.{IsKept, tells}
+use Rattle.xv_core.specs.Losing.{LosesNothing}
+use Rattle.xv_core.proofs.Losing.{loses-nothing}
 use Rattle.xv_core.proofs.Counting.Rises.{rises-refl, rises-over}
 use Rattle.xv_core.proofs.Plans.Rise.{takes-rise-refl, takes-rise-over}
 use Rattle.xv_top.specs.Playing.{IsEventPlayed, IsLinePlayed}
@@ -103,3 +105,7 @@ later_event l m n e text so_far played =
 pub later_line : (l m n : Seen) (line : Line) (text : List ℕ) → IsLater l m → IsLinePlayed m line n text → IsLater l n
 later_line l m n (Step e) text so_far played = later_event l m n e text so_far played
 later_line l m n (Ask unit) text so_far played = rw played.0 so_far
+
+-- so nothing is lost where both devices told at first what they hold
+pub later-loses : (old new : Seen) → IsLater old new → tells old.source ≡ true → tells old.dest ≡ true → LosesNothing new
+later-loses old new later source dest = loses-nothing new later.kept (later.tells.source ∙ source) (later.tells.dest ∙ dest)

@@ -26,23 +26,26 @@ adds event answer = record { event = event; turn = answer } ∷ []
 
 -- Lines were answered one after another, and their texts are joined: each event has an answer and is the journal's next entry,
 -- unless it waits; its line says the answer with what the unmigrated guest reads there.
-abbrev pub AreAnswered : Job → List Entry → List Line → List Entry → List ℕ → Type 0
-AreAnswered job before [] after text = (after ≡ before) × (text ≡ [])
-AreAnswered job before (Step e ∷ ls) after text =
-    (answer : Turn) × (rest : List ℕ) × AreAnswered job (before ++ adds e answer) ls after rest
+abbrev pub AreTold : Job → List Entry → List Line → List Entry → List ℕ → Type 0
+AreTold job before [] after text = (after ≡ before) × (text ≡ [])
+AreTold job before (Step e ∷ ls) after text =
+    (answer : Turn) × (rest : List ℕ) × AreTold job (before ++ adds e answer) ls after rest
     × (text ≡ turn_line e answer (read_between job before (before ++ adds e answer)) ++ rest)
-AreAnswered job before (Ask unit ∷ ls) after text =
-    (words : List ℕ) × (rest : List ℕ) × AreAnswered job before ls after rest × (text ≡ words ++ rest)
+AreTold job before (Ask unit ∷ ls) after text =
+    (words : List ℕ) × (rest : List ℕ) × AreTold job before ls after rest × (text ≡ words ++ rest)
 
--- the input is the text of the migration's job and of the lines that were answered; behind their answers and a report stands
--- the image of what the devices tell
-pub record PrintsAll (bytes old new : Option (List ℕ)) (m : Seen) : Type 0 where
-  pub lines : List Line
+-- the answers of lines were taken, then a report, then the image of what the devices tell
+pub record IsPrinted (lines : List Line) (old new : Option (List ℕ)) (m : Seen) : Type 0 where
   pub answers : List ℕ
   pub report : List ℕ
-  pub input : IfSome bytes (λ xs. xs ≡ input_text m.job lines)
-  pub answered : AreAnswered (job_of m.job) [] lines m.journal answers
+  pub answered : AreTold (job_of m.job) [] lines m.journal answers
   pub output : TookMore old new (answers ++ report ++ image_text (told_contents m.source) (told_contents m.dest))
+
+-- so they were, and the input is the text of the migration's job and of those lines
+pub record PrintsAll (bytes old new : Option (List ℕ)) (m : Seen) : Type 0 where
+  pub lines : List Line
+  pub input : IfSome bytes (λ xs. xs ≡ input_text m.job lines)
+  pub printed : IsPrinted lines old new m
 
 -- until the switchover a destination unit that was not written is all zero
 pub record IsZeroElsewhere (m : Seen) : Type 0 where

@@ -9,6 +9,10 @@ ghost use Rattle.xv_model.specs.Guest.{ended};
 ghost use Rattle.xv_job.specs.Written.{job_of};
 ghost use Rattle.xv_job.specs.Made.{made_job};
 ghost use Rattle.xv_guest.specs.Plain.{IsUnmigrated};
+ghost use Rattle.xv_core.specs.Seen.{Seen};
+ghost use Rattle.xv_core.specs.Losing.{LosesNothing};
+ghost use Rattle.xv_top.specs.Printed.{IsZeroElsewhere, HasEndedAll};
+ghost use Rattle.xv_top.specs.declared.program.Left.TheVariants.{First};
 ghost use Rattle.xv_parts.specs.Memory.{IsInMemory, begun_in_memory};
 ghost use Rattle.xv_top.specs.Outcome.{OnInput, ReadsNothing, output_over, outcome};
 ghost use Rattle.xv_top.specs.Driven.{agreeing, agree_line, agreed_text, drive_text, HasDriven, AreTheGuests, HasHandedOver};
@@ -37,6 +41,8 @@ pub fn run_drive<O: Sink>(alloc: Global, number: u16, output: &mut O, left: &mut
     // That the number fits its type is told here, since it is a value's own.
     ensures below { number < 2 ^ 16 }
     ensures promise { (input : OnInput) → ReadsNothing input → DrivePromise number (outcome input (output_over O.taken O.faults O.keeps_back output.old output.new) result left.new) }
+    ensures loses_nothing { (m : Seen) → left.new ≡ First m → LosesNothing m × IsZeroElsewhere m }
+    ensures ends_all { (m : Seen) → left.new ≡ First m → (m.job ≡ made_job number) × HasEndedAll m }
 {
     match drive(alloc, number, output) {
         Ok(machine) => {
@@ -52,6 +58,7 @@ pub fn run_drive<O: Sink>(alloc: Global, number: u16, output: &mut O, left: &mut
 fn drive<O: Sink>(alloc: Global, number: u16, output: &mut O) -> Result<Machine, PlayError>
     ensures driven { IfOk result (λ m. HasDriven (made_job number) m) }
     ensures handed_over { IfOk result (λ m. HasHandedOver m) }
+    ensures in_memory { IfOk result (λ m. IsInMemory m) }
     ensures written { OnOk result (TookMore (O.taken output.old) (O.taken output.new) (drive_text (made_job number))) }
     ensures front { OnErr result (TookFront (O.taken output.old) (O.taken output.new) (drive_text (made_job number))) }
     ensures memory { IsErrOf result PlayError.NoMemory → O.taken output.new ≡ O.taken output.old }

@@ -6,7 +6,8 @@
 // in how many units the guests' owner agrees with the unmigrated guest; both read nothing.
 // `handover` reads and checks the same way, plays the script on two nodes, and writes the answers and the nodes. What is
 // written is a stated function of what was read, and a refusal names the first faulty line. `replay_on` plays lines on a
-// migration over any devices and wires.
+// migration over any devices and wires. No write of a guest is lost, and what is printed is that journal: both are said by
+// what the journal tells, without the machine.
 #![tactic(auto)]
 
 mod command;
@@ -16,7 +17,6 @@ mod handover;
 mod input;
 mod output;
 mod playing;
-mod printing_laws;
 mod program;
 mod refusal;
 

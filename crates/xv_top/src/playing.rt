@@ -11,7 +11,8 @@ ghost use Rattle.xv_script.specs.Script.{is_in};
 ghost use Rattle.xv_script.specs.declared.line.Line.TheVariants.{Step, Ask};
 ghost use Rattle.xv_core.specs.Rising.{Rises, TakesRise};
 ghost use Rattle.xv_core.specs.Stepped.{KeepsUnwritten, TellsOn};
-ghost use Rattle.xv_core.specs.Keeping.{IsKept};
+ghost use Rattle.xv_core.specs.Keeping.{IsKept, tells};
+ghost use Rattle.xv_core.specs.Losing.{LosesNothing};
 ghost use Rattle.xv_top.specs.Playing.{ArePlayed, IsCutShort, IsLineWritten, IsLineCut};
 
 use crate::input::behind;
@@ -48,6 +49,7 @@ pub fn replay_on<S: UnitDevice, T: UnitDevice, W: Wire, O: Sink>(
     ensures unwritten { KeepsUnwritten migration.old migration.new }
     ensures tells { TellsOn migration.old migration.new }
     ensures kept { IsKept migration.new }
+    ensures loses_nothing { tells migration.old.source ≡ true → tells migration.old.dest ≡ true → LosesNothing migration.new }
     ensures fault { OnErr result (CountRose (O.faults sink.old) (O.faults sink.new)) }
     ensures quiet { OnOk result (O.faults sink.new ≡ O.faults sink.old) }
 {

@@ -1,11 +1,17 @@
 //! The top call of the program.
 
-ghost use Rattle.std.specs.Prelude.{◌≡◌, ◌≢◌, ◌⊎◌, false, map, IfOk, OnOk, IsErrOf, OnErr, string_bytes};
+ghost use Rattle.std.specs.Prelude.{ℕ, ◌≡◌, ◌≢◌, ◌<◌, ◌^◌, ◌⊎◌, false, map, IfOk, OnOk, IsErrOf, OnErr, string_bytes};
 ghost use Rattle.xv_base.specs.Calls.{CountRose};
 ghost use Rattle.xv_io.specs.Io.{TookMore, TookFront};
 ghost use Rattle.xv_job.specs.Written.{job_of};
+ghost use Rattle.xv_job.specs.Made.{made_job};
 ghost use Rattle.xv_script.specs.Script.{IsScriptOf};
-ghost use Rattle.xv_parts.specs.Memory.{begun_in_memory};
+ghost use Rattle.xv_core.specs.Seen.{Seen};
+ghost use Rattle.xv_core.specs.Losing.{LosesNothing};
+ghost use Rattle.xv_parts.specs.Memory.{IsInMemory, begun_in_memory};
+ghost use Rattle.xv_top.specs.Printed.{IsPrinted, PrintsAll, IsZeroElsewhere, HasEndedAll};
+ghost use Rattle.xv_top.specs.declared.command.Form.{Form as FormName};
+ghost use Rattle.xv_top.specs.declared.program.Left.TheVariants.{First};
 ghost use Rattle.xv_top.specs.Replay.{transcript, output_text};
 ghost use Rattle.xv_top.specs.Top.{HasRun};
 ghost use Rattle.xv_top.specs.Outcome.{input_over, output_over, outcome};
@@ -62,6 +68,16 @@ pub fn top<I: Source, O: Sink>(
     ensures words { IsNoCommand (map (λ w. string_bytes w) words.now)
         → WordsPromise (outcome (input_over I.left I.faults input.old input.new) (output_over O.taken O.faults O.keeps_back output.old output.new) result left.new) }
     ensures either { IsCommand (map (λ w. string_bytes w) words.now) ⊎ IsNoCommand (map (λ w. string_bytes w) words.now) }
+
+    // No write of a guest is lost: whatever migration is left, said by what its journal tells.
+    ensures loses_nothing { (m : Seen) → left.new ≡ First m → LosesNothing m × IsZeroElsewhere m }
+
+    // `replay` prints that journal: its entries are those of the lines answered, each line says its answer with what the
+    // unmigrated guest reads there, and the image is what the devices hold; the input is the text of that job and those lines.
+    ensures prints_all { (form : FormName) (m : Seen) → map (λ w. string_bytes w) words.now ≡ words_of (Replay form) → left.new ≡ First m → PrintsAll (I.left input.old) (O.taken output.old) (O.taken output.new) m }
+
+    // `drive` brings its job's guests over, each to its end.
+    ensures ends_all { (number : ℕ) (m : Seen) → number < 2 ^ 16 → map (λ w. string_bytes w) words.now ≡ words_of (Drive number) → left.new ≡ First m → (m.job ≡ made_job number) × HasEndedAll m }
 {
     *left = Left::Nothing;
     match command_of(words) {
@@ -83,7 +99,9 @@ fn run_replay<I: Source, O: Sink>(
     left: &mut Left,
 ) -> Status
     requires { left.old ≡ Left.Nothing }
-    ensures { ReplayPromise form (outcome (input_over I.left I.faults input.old input.new) (output_over O.taken O.faults O.keeps_back output.old output.new) result left.new) }
+    ensures promise { ReplayPromise form (outcome (input_over I.left I.faults input.old input.new) (output_over O.taken O.faults O.keeps_back output.old output.new) result left.new) }
+    ensures loses_nothing { (m : Seen) → left.new ≡ First m → LosesNothing m × IsZeroElsewhere m }
+    ensures prints_all { (m : Seen) → left.new ≡ First m → PrintsAll (I.left input.old) (O.taken output.old) (O.taken output.new) m }
 {
     let (job, lines) = match read_input(alloc, input) {
         Ok(found) => found,
@@ -112,6 +130,8 @@ fn replay<O: Sink>(
 ) -> Result<Machine, PlayError>
     requires script { IsScriptOf (job_of job) lines.now }
     ensures ran { IfOk result (λ m. HasRun job lines.now m) }
+    ensures in_memory { IfOk result (λ m. IsInMemory m) }
+    ensures printed { IfOk result (λ m. IsPrinted lines.now (O.taken output.old) (O.taken output.new) m) }
     ensures written { OnOk result (TookMore (O.taken output.old) (O.taken output.new) (output_text form (job_of job) lines.now)) }
     ensures front { OnErr result (TookFront (O.taken output.old) (O.taken output.new) (output_text form (job_of job) lines.now)) }
     ensures memory { IsErrOf result PlayError.NoMemory → (O.taken output.new ≡ O.taken output.old) ⊎ ((form ≡ Json) × TookMore (O.taken output.old) (O.taken output.new) (transcript (job_of job) lines.now)) }
@@ -143,6 +163,8 @@ fn play_script<O: Sink>(
     requires begun { machine.old ≡ begun_in_memory machine.old.job }
     requires script { IsScriptOf (job_of machine.old.job) lines.now }
     ensures ran { OnOk result (HasRun machine.old.job lines.now machine.new) }
+    ensures in_memory { OnOk result (IsInMemory machine.new) }
+    ensures printed { OnOk result (IsPrinted lines.now (O.taken output.old) (O.taken output.new) machine.new) }
     ensures written { OnOk result (TookMore (O.taken output.old) (O.taken output.new) (output_text form (job_of machine.old.job) lines.now)) }
     ensures front { OnErr result (TookFront (O.taken output.old) (O.taken output.new) (output_text form (job_of machine.old.job) lines.now)) }
     ensures memory { IsErrOf result PlayError.NoMemory → (form ≡ Json) × TookMore (O.taken output.old) (O.taken output.new) (transcript (job_of machine.old.job) lines.now) }

@@ -2,7 +2,7 @@ use Rattle.std.proofs.Common.{refl, ◌∙◌}
 use Rattle.xv_base.specs.declared.event.Event.TheVariants.{Guest}
 use Rattle.xv_script.specs.declared.line.Line.{Line}
 use Rattle.xv_script.specs.declared.line.Line.TheVariants.{Step}
-use Rattle.xv_top.proofs.Later.{later_none, later_line}
+use Rattle.xv_top.proofs.Later.{later_none, later_line, later-loses}
 use Rattle.xv_top.proofs.Played.{playing-begins, playing-more, playing-cut, playing-all, line-in_job, err-with}
 use Rattle.xv_top.proofs.playing.replay_on.Goals as goal
 
@@ -71,3 +71,11 @@ returns-in_err-play_line-clause-kept g c =
 pub returns-clause-played : goal.returns-clause-played
 returns-clause-played g c =
     playing-all c.args.migration.now c.loop-line.migration c.args.lines.now c.loop-line.line-index (g.O.Sink.taken c.args.sink.now) (g.O.Sink.taken c.loop-line.sink) c.loop-line-test.false c.loop-line.invariant.playing
+
+pub returns-in_err-play_line-clause-loses_nothing : goal.returns-in_err-play_line-clause-loses_nothing
+returns-in_err-play_line-clause-loses_nothing g c =
+    let cut = c.in_err-play_line.ensures.front in
+    later-loses c.args.migration.now c.play_line.new.migration (later_line c.args.migration.now c.loop-line.migration c.play_line.new.migration _ cut.0 c.loop-line.invariant.later cut.1)
+
+pub returns-clause-loses_nothing : goal.returns-clause-loses_nothing
+returns-clause-loses_nothing g c = later-loses c.args.migration.now c.loop-line.migration c.loop-line.invariant.later

@@ -1,4 +1,5 @@
 use Rattle.xv_top.proofs.Ran.{replayed, has-run, transcript-taken, output-whole, output-front, cut-front}
+use Rattle.xv_top.proofs.Printed.{printed-is}
 use Rattle.xv_top.proofs.program.play_script.Goals as goal
 
 pub write_result-requires : goal.write_result-requires
@@ -46,3 +47,15 @@ returns-in-Err-NoMemory-clause-memory g c = λ _.
 pub returns-in-Err-clause-front : goal.returns-in-Err-clause-front
 returns-in-Err-clause-front g c =
     cut-front c.args.form c.args.machine.now.job c.args.machine.now c.replay_on.new.migration c.args.lines.now (g.O.Sink.taken c.args.output.now) (g.O.Sink.taken c.replay_on.new.sink) c.requires.begun c.journal.ensures.kept c.requires.script c.in-Err.ensures.cut
+
+pub returns-in-Ok-write_result-clause-in_memory : goal.returns-in-Ok-write_result-clause-in_memory
+returns-in-Ok-write_result-clause-in_memory g c =
+    let played = c.in-Ok.ensures.played in
+    (replayed c.args.machine.now.job c.args.machine.now c.replay_on.new.migration c.args.lines.now played.0 c.requires.begun c.journal.ensures.kept c.requires.script played.1).in_memory
+
+pub returns-in-Ok-write_result-clause-printed : goal.returns-in-Ok-write_result-clause-printed
+returns-in-Ok-write_result-clause-printed g c =
+    let played = c.in-Ok.ensures.played in
+    let replay = (replayed c.args.machine.now.job c.args.machine.now c.replay_on.new.migration c.args.lines.now played.0 c.requires.begun c.journal.ensures.kept c.requires.script played.1) in
+    printed-is c.args.form c.args.machine.now.job c.args.machine.now c.replay_on.new.migration c.args.lines.now played.0 (g.O.Sink.taken c.args.output.now) (g.O.Sink.taken c.replay_on.new.sink) (g.O.Sink.taken c.write_result.new.output)
+    c.requires.begun c.journal.ensures.kept replay.of_job replay.in_memory played.1 played.2 c.in-Ok-write_result.ensures.whole

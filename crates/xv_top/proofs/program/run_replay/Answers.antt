@@ -5,6 +5,10 @@ use Rattle.xv_script.specs.Script.{IsScriptOf}
 use Rattle.xv_script.specs.declared.line.Line.{Line}
 use Rattle.xv_top.specs.Top.{IsInput}
 use Rattle.xv_top.proofs.Statuses.{replay-promise, short-or-none, ok-no_err, err-no_err}
+use Rattle.xv_core.specs.Seen.{Seen}
+use Rattle.xv_parts.specs.Memory.{IsInMemory}
+use Rattle.xv_top.specs.Printed.{PrintsAll}
+use Rattle.xv_top.proofs.Printed.{loses-in-memory, zero-elsewhere, left-one, prints-all}
 use Rattle.xv_top.proofs.program.run_replay.Goals as goal
 
 pub replay-requires : goal.replay-requires
@@ -12,8 +16,8 @@ replay-requires g c = record {
   script = subst (λ (lines : List Line). IsScriptOf (job_of c.in-Ok.found.0) lines) (sym c.deref.ensures.value) c.in-Ok.ensures.script;
 }
 
-pub returns-in-Ok-replay : goal.returns-in-Ok-replay
-returns-in-Ok-replay g c =
+pub returns-in-Ok-replay-clause-promise : goal.returns-in-Ok-replay-clause-promise
+returns-in-Ok-replay-clause-promise g c =
     let text = subst (λ (lines : List Line). IfSome (g.I.Source.left c.args.input.now) (λ bytes. IsInput bytes c.in-Ok.found.0 lines)) (sym c.deref.ensures.value) c.in-Ok.ensures.text in
     replay-promise c.args.form _ c.read_input.ensures.most (λ not. absurd (not refl))
     (record {
@@ -27,8 +31,8 @@ returns-in-Ok-replay g c =
       is_left = refl;
     })
 
-pub returns-in-Err-WriteFault : goal.returns-in-Err-WriteFault
-returns-in-Err-WriteFault g c =
+pub returns-in-Err-WriteFault-clause-promise : goal.returns-in-Err-WriteFault-clause-promise
+returns-in-Err-WriteFault-clause-promise g c =
     let text = subst (λ (lines : List Line). IfSome (g.I.Source.left c.args.input.now) (λ bytes. IsInput bytes c.in-Ok.found.0 lines)) (sym c.deref.ensures.value) c.in-Ok.ensures.text in
     let failed = c.replay.ensures.fault (cc (c.in-Err-WriteFault.is, c.in-Err-WriteFault.field-0-is)) in
     replay-promise c.args.form _ c.read_input.ensures.most (λ _. c.requires) (
@@ -39,10 +43,21 @@ returns-in-Err-WriteFault g c =
       ),
     )
 
-pub returns : goal.returns
-returns g c =
+pub returns-clause-promise : goal.returns-clause-promise
+returns-clause-promise g c =
     let text = subst (λ (lines : List Line). IfSome (g.I.Source.left c.args.input.now) (λ bytes. IsInput bytes c.in-Ok.found.0 lines)) (sym c.deref.ensures.value) c.in-Ok.ensures.text in
     let short = c.replay.ensures.memory (cc (c.in-Err-NoMemory-replay.is, c.in-Err-NoMemory-replay.field-0-is)) in
     let quiet = c.replay.ensures.quiet (err-no_err _ c.in-Err-NoMemory-replay.field-0 _ c.in-Err-NoMemory-replay.is (λ same. (let impossible = sym c.in-Err-NoMemory-replay.field-0-is ∙ same in cc))) in
     replay-promise c.args.form _ c.read_input.ensures.most (λ _. c.requires)
     (short-or-none c.args.form _ c.in-Ok.found.0 c.deref.result.now (c.read_input.ensures.quiet (ok-no_err _ _ _ c.in-Ok.is)) quiet text short)
+
+pub returns-in-Ok-replay-clause-loses_nothing : goal.returns-in-Ok-replay-clause-loses_nothing
+returns-in-Ok-replay-clause-loses_nothing g c = λ m is.
+    let inside = left-one IsInMemory c.in-Ok-replay.machine m is c.in-Ok-replay.ensures.in_memory in
+    (loses-in-memory m inside, zero-elsewhere m inside)
+
+pub returns-in-Ok-replay-clause-prints_all : goal.returns-in-Ok-replay-clause-prints_all
+returns-in-Ok-replay-clause-prints_all g c = λ m is.
+    let text = subst (λ (lines : List Line). IfSome (g.I.Source.left c.args.input.now) (λ bytes. IsInput bytes c.in-Ok.found.0 lines)) (sym c.deref.ensures.value) c.in-Ok.ensures.text in
+    left-one (λ (n : Seen). PrintsAll (g.I.Source.left c.args.input.now) (g.O.Sink.taken c.args.output.now) (g.O.Sink.taken c.replay.new.output) n) c.in-Ok-replay.machine m is
+    (prints-all (g.I.Source.left c.args.input.now) (g.O.Sink.taken c.args.output.now) (g.O.Sink.taken c.replay.new.output) c.in-Ok.found.0 c.in-Ok-replay.machine c.deref.result.now c.in-Ok-replay.ensures.ran.of_job text c.in-Ok-replay.ensures.printed)
