@@ -1,5 +1,6 @@
 -- What is printed and left, by what the journal tells.
-use Rattle.std.specs.Prelude.{◌≡◌, ◌<◌, ℕ, true, List, [], ◌∷◌, ◌++◌, length, drop, Option, Some, None, IfSome, unwrap_or, ◌^◌, decimal}
+use Rattle.std.specs.Prelude.{◌≡◌, ◌<◌, ℕ, true, List, [], ◌∷◌, ◌++◌, length, drop, map, codes, Option, Some, None, IfSome, unwrap_or, ◌^◌, decimal}
+use Rattle.std.specs.List.{flat_map}
 use Rattle.std.proofs.Common.{refl, ap, sym, subst, ◌∙◌, arith, append_assoc}
 use Rattle.std.proofs.lemmas.List.FromFn.{get_or-map-range_with_len}
 use Rattle.xv_base.specs.Units.{size}
@@ -16,10 +17,13 @@ use Rattle.xv_model.specs.Story.{Story}
 use Rattle.xv_model.proofs.Left.{guest_ended}
 use Rattle.xv_model.proofs.Finished.{finished}
 use Rattle.xv_model.proofs.Story.Runs.{story-is}
-use Rattle.xv_script.specs.Lines.{turn_line}
+use Rattle.xv_text.specs.Lines.{text_of}
+use Rattle.xv_text.proofs.Apart.{text_of-append}
+use Rattle.xv_script.specs.Lines.{turn_line, script_text}
 use Rattle.xv_script.specs.declared.line.Line.{Line}
 use Rattle.xv_script.specs.declared.line.Line.TheVariants.{Step, Ask}
 use Rattle.xv_job.specs.Written.{Written, job_of}
+use Rattle.xv_job.specs.JobText.{machine_lines, limit_lines, group_lines, cancel_lines, fault_fields, init_fields, guest_lines, job_lines, job_text}
 use Rattle.xv_core.specs.Seen.{Seen, view_of}
 use Rattle.xv_core.specs.Keeping.{IsKept, tells, told_contents}
 use Rattle.xv_core.specs.Losing.{LosesNothing, read_between}
@@ -32,7 +36,7 @@ use Rattle.xv_report.specs.Texts.{image_text}
 use Rattle.xv_parts.specs.Sides.{sources, dests}
 use Rattle.xv_parts.proofs.Holding.{source-holds, dest-holds}
 use Rattle.xv_top.specs.Top.{IsInput}
-use Rattle.xv_top.specs.Replay.{input_text, totals_text, result_text}
+use Rattle.xv_top.specs.Replay.{totals_text, result_text}
 use Rattle.std.proofs.lemmas.Fmt.{decimal_injective}
 use Rattle.xv_top.specs.Command.{words_of}
 use Rattle.xv_top.specs.declared.command.Command.TheVariants.{Drive}
@@ -40,7 +44,7 @@ use Rattle.xv_top.specs.declared.command.Form.{Form}
 use Rattle.xv_top.specs.declared.program.Left.TheVariants.{First}
 use Rattle.xv_top.specs.Playing.{ArePlayed}
 use Rattle.xv_top.specs.Driven.{HasHandedOver}
-use Rattle.xv_top.specs.Printed.{adds, AreTold, IsPrinted, PrintsAll, IsZeroElsewhere, HasEndedAll}
+use Rattle.xv_top.specs.Printed.{adds, AreTold, IsPrinted, PrintsAll, IsOfInput, IsZeroElsewhere, HasEndedAll}
 
 adds-is : (e : Event) (a : Turn) → entry_of e a ≡ adds e a
 adds-is e (Done n) = refl
@@ -118,10 +122,36 @@ printed-is form w start m lines text a b c is kept of_job inside played first re
 pub left-one : (P : Seen → Type 0) (m n : Seen) → First m ≡ First n → P m → P n
 left-one P m n same p = let is : m ≡ n = cc in subst P is p
 
-pub prints-all : (bytes old new : Option (List ℕ)) (w : Written) (m : Seen) (lines : List Line) → m.job ≡ w → IfSome bytes (λ xs. IsInput xs w lines) → IsPrinted lines old new m → PrintsAll bytes old new m
-prints-all None old new w m lines of_job input printed = record { lines = lines; input = tt; printed = printed }
-prints-all (Some xs) old new w m lines of_job input printed =
-    record { lines = lines; input = input.text ∙ ap (λ (x : Written). input_text x lines) (sym of_job); printed = printed }
+-- a job's text ends with its line `end`
+before-end : Written → List (List (List ℕ))
+before-end w = (machine_lines w ++ (limit_lines w.config ++ group_lines w)) ++ (cancel_lines w.config.cancel ++ (map fault_fields w.faults ++ (map init_fields w.init ++ flat_map guest_lines w.traces)))
+
+regroup : {X : Type 0} (m k g c f i t e : List X) → ((m ++ (k ++ g)) ++ (c ++ (f ++ (i ++ t)))) ++ e ≡ m ++ (k ++ (g ++ (c ++ (f ++ (i ++ (t ++ e))))))
+regroup m k g c f i t e = simp append_assoc
+
+job-ends : (w : Written) → job_text w ≡ text_of (before-end w) ++ codes "end" ++ 10 ∷ []
+job-ends w =
+    let end : List (List (List ℕ)) = (codes "end" ∷ []) ∷ [] in
+    let lines : job_lines w ≡ before-end w ++ end =
+    sym (regroup (machine_lines w) (limit_lines w.config) (group_lines w) (cancel_lines w.config.cancel) (map fault_fields w.faults) (map init_fields w.init) (flat_map guest_lines w.traces) end) in
+    ap (λ (ls : List (List (List ℕ))). text_of ls) lines ∙ text_of-append (before-end w) end
+
+pub prints-all : (bytes old new : Option (List ℕ)) (w : Written) (m : Seen) (lines : List Line) → IfSome bytes (λ xs. IsInput xs w lines) → IsPrinted lines old new m → PrintsAll bytes old new m
+prints-all None old new w m lines input printed = record { lines = lines; input = tt; printed = printed }
+prints-all (Some xs) old new w m lines input printed =
+    let front = text_of (before-end w) in
+    record {
+      lines = lines;
+      input = (
+        front,
+        input.text ∙ ap (λ (text : List ℕ). text ++ script_text lines) (job-ends w) ∙ append_assoc front (codes "end" ++ 10 ∷ []) (script_text lines),
+      );
+      printed = printed;
+    }
+
+pub of-input : (bytes : Option (List ℕ)) (w : Written) (m : Seen) (lines : List Line) → m.job ≡ w → IfSome bytes (λ xs. IsInput xs w lines) → IsOfInput bytes m
+of-input None w m lines of_job input = tt
+of-input (Some xs) w m lines of_job input = (script_text lines, input.text ∙ ap (λ (x : Written). job_text x ++ script_text lines) (sym of_job))
 
 -- a number that is said in words is one
 pub said-number : (words : List (List ℕ)) (n k : ℕ) → n < 2 ^ 16 → k < 2 ^ 16 → words ≡ words_of (Drive n) → words ≡ words_of (Drive k) → n ≡ k

@@ -1,5 +1,5 @@
 -- What `replay` prints, by what its journal tells.
-use Rattle.std.specs.Prelude.{◌≡◌, ◌<◌, ℕ, false, true, List, [], ◌∷◌, ◌++◌, length, replicate, Option, IfSome}
+use Rattle.std.specs.Prelude.{◌≡◌, ◌<◌, ℕ, false, true, List, [], ◌∷◌, ◌++◌, length, replicate, codes, Option, IfSome}
 use Rattle.xv_io.specs.Io.{TookMore}
 use Rattle.xv_base.specs.declared.answer.Turn.{Turn}
 use Rattle.xv_base.specs.declared.answer.Entry.{Entry}
@@ -10,14 +10,14 @@ use Rattle.xv_base.specs.declared.answer.Turn.TheVariants.{Wait}
 use Rattle.xv_model.specs.Contents.{unit_content}
 use Rattle.xv_model.specs.Story.{was_written}
 use Rattle.xv_job.specs.Written.{job_of}
-use Rattle.xv_script.specs.Lines.{turn_line}
+use Rattle.xv_job.specs.JobText.{job_text}
+use Rattle.xv_script.specs.Lines.{turn_line, script_text}
 use Rattle.xv_script.specs.declared.line.Line.{Line}
 use Rattle.xv_script.specs.declared.line.Line.TheVariants.{Step, Ask}
 use Rattle.xv_report.specs.Texts.{image_text}
 use Rattle.xv_core.specs.Seen.{Seen}
 use Rattle.xv_core.specs.Keeping.{told_contents}
 use Rattle.xv_core.specs.Losing.{story, read_between}
-use Rattle.xv_top.specs.Replay.{input_text}
 
 -- what an answer adds to a journal: nothing where the event waits
 abbrev pub adds : Event → Turn → List Entry
@@ -41,11 +41,15 @@ pub record IsPrinted (lines : List Line) (old new : Option (List ℕ)) (m : Seen
   pub answered : AreTold (job_of m.job) [] lines m.journal answers
   pub output : TookMore old new (answers ++ report ++ image_text (told_contents m.source) (told_contents m.dest))
 
--- so they were, and the input is the text of the migration's job and of those lines
+-- so they were, and behind its line `end` the input has those lines; no line of a script is that one
 pub record PrintsAll (bytes old new : Option (List ℕ)) (m : Seen) : Type 0 where
   pub lines : List Line
-  pub input : IfSome bytes (λ xs. xs ≡ input_text m.job lines)
+  pub input : IfSome bytes (λ xs. (front : List ℕ) × (xs ≡ front ++ codes "end" ++ 10 ∷ script_text lines))
   pub printed : IsPrinted lines old new m
+
+-- the input begins with the text of the migration's job
+abbrev pub IsOfInput : Option (List ℕ) → Seen → Type 0
+IsOfInput bytes m = IfSome bytes (λ xs. (rest : List ℕ) × (xs ≡ job_text m.job ++ rest))
 
 -- until the switchover a destination unit that was not written is all zero
 pub record IsZeroElsewhere (m : Seen) : Type 0 where

@@ -9,7 +9,7 @@ ghost use Rattle.xv_script.specs.Script.{IsScriptOf};
 ghost use Rattle.xv_core.specs.Seen.{Seen};
 ghost use Rattle.xv_core.specs.Losing.{LosesNothing};
 ghost use Rattle.xv_parts.specs.Memory.{IsInMemory, begun_in_memory};
-ghost use Rattle.xv_top.specs.Printed.{IsPrinted, PrintsAll, IsZeroElsewhere, HasEndedAll};
+ghost use Rattle.xv_top.specs.Printed.{IsPrinted, PrintsAll, IsOfInput, IsZeroElsewhere, HasEndedAll};
 ghost use Rattle.xv_top.specs.declared.command.Form.{Form as FormName};
 ghost use Rattle.xv_top.specs.declared.program.Left.TheVariants.{First};
 ghost use Rattle.xv_top.specs.Replay.{transcript, output_text};
@@ -72,8 +72,10 @@ pub fn top<I: Source, O: Sink>(
     // No write of a guest is lost: whatever migration is left, said by what its journal tells.
     ensures loses_nothing { (m : Seen) → left.new ≡ First m → LosesNothing m × IsZeroElsewhere m }
 
-    // `replay` prints that journal: its entries are those of the lines answered, each line says its answer with what the
-    // unmigrated guest reads there, and the image is what the devices hold; the input is the text of that job and those lines.
+    // `replay` prints that journal: the input begins with the text of its job, and the lines behind that were answered; the
+    // entries are theirs, each line says its answer with what the unmigrated guest reads there, and the image is what the
+    // devices hold.
+    ensures of_input { (form : FormName) (m : Seen) → map (λ w. string_bytes w) words.now ≡ words_of (Replay form) → left.new ≡ First m → IsOfInput (I.left input.old) m }
     ensures prints_all { (form : FormName) (m : Seen) → map (λ w. string_bytes w) words.now ≡ words_of (Replay form) → left.new ≡ First m → PrintsAll (I.left input.old) (O.taken output.old) (O.taken output.new) m }
 
     // `drive` brings its job's guests over, each to its end.
@@ -101,6 +103,7 @@ fn run_replay<I: Source, O: Sink>(
     requires { left.old ≡ Left.Nothing }
     ensures promise { ReplayPromise form (outcome (input_over I.left I.faults input.old input.new) (output_over O.taken O.faults O.keeps_back output.old output.new) result left.new) }
     ensures loses_nothing { (m : Seen) → left.new ≡ First m → LosesNothing m × IsZeroElsewhere m }
+    ensures of_input { (m : Seen) → left.new ≡ First m → IsOfInput (I.left input.old) m }
     ensures prints_all { (m : Seen) → left.new ≡ First m → PrintsAll (I.left input.old) (O.taken output.old) (O.taken output.new) m }
 {
     let (job, lines) = match read_input(alloc, input) {

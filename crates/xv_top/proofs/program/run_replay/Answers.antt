@@ -7,8 +7,8 @@ use Rattle.xv_top.specs.Top.{IsInput}
 use Rattle.xv_top.proofs.Statuses.{replay-promise, short-or-none, ok-no_err, err-no_err}
 use Rattle.xv_core.specs.Seen.{Seen}
 use Rattle.xv_parts.specs.Memory.{IsInMemory}
-use Rattle.xv_top.specs.Printed.{PrintsAll}
-use Rattle.xv_top.proofs.Printed.{loses-in-memory, zero-elsewhere, left-one, prints-all}
+use Rattle.xv_top.specs.Printed.{PrintsAll, IsOfInput}
+use Rattle.xv_top.proofs.Printed.{loses-in-memory, zero-elsewhere, left-one, prints-all, of-input}
 use Rattle.xv_top.proofs.program.run_replay.Goals as goal
 
 pub replay-requires : goal.replay-requires
@@ -60,4 +60,10 @@ pub returns-in-Ok-replay-clause-prints_all : goal.returns-in-Ok-replay-clause-pr
 returns-in-Ok-replay-clause-prints_all g c = λ m is.
     let text = subst (λ (lines : List Line). IfSome (g.I.Source.left c.args.input.now) (λ bytes. IsInput bytes c.in-Ok.found.0 lines)) (sym c.deref.ensures.value) c.in-Ok.ensures.text in
     left-one (λ (n : Seen). PrintsAll (g.I.Source.left c.args.input.now) (g.O.Sink.taken c.args.output.now) (g.O.Sink.taken c.replay.new.output) n) c.in-Ok-replay.machine m is
-    (prints-all (g.I.Source.left c.args.input.now) (g.O.Sink.taken c.args.output.now) (g.O.Sink.taken c.replay.new.output) c.in-Ok.found.0 c.in-Ok-replay.machine c.deref.result.now c.in-Ok-replay.ensures.ran.of_job text c.in-Ok-replay.ensures.printed)
+    (prints-all (g.I.Source.left c.args.input.now) (g.O.Sink.taken c.args.output.now) (g.O.Sink.taken c.replay.new.output) c.in-Ok.found.0 c.in-Ok-replay.machine c.deref.result.now text c.in-Ok-replay.ensures.printed)
+
+pub returns-in-Ok-replay-clause-of_input : goal.returns-in-Ok-replay-clause-of_input
+returns-in-Ok-replay-clause-of_input g c = λ m is.
+    let text = subst (λ (lines : List Line). IfSome (g.I.Source.left c.args.input.now) (λ bytes. IsInput bytes c.in-Ok.found.0 lines)) (sym c.deref.ensures.value) c.in-Ok.ensures.text in
+    left-one (λ (n : Seen). IsOfInput (g.I.Source.left c.args.input.now) n) c.in-Ok-replay.machine m is
+    (of-input (g.I.Source.left c.args.input.now) c.in-Ok.found.0 c.in-Ok-replay.machine c.deref.result.now c.in-Ok-replay.ensures.ran.of_job text)
