@@ -22,14 +22,3 @@ mod refusal;
 
 pub use playing::replay_on;
 pub use program::{Left, top};
-
-#[cfg(test)]
-mod drive_tests;
-#[cfg(test)]
-mod fault_tests;
-#[cfg(test)]
-mod handover_tests;
-#[cfg(test)]
-mod replay_tests;
-#[cfg(test)]
-mod tests;

@@ -3,7 +3,7 @@ use Rattle.std.specs.Prelude.{Result, Ok, Err, IfOk}
 use Rattle.xv_core.specs.Seen.{Seen}
 use Rattle.xv_core.specs.PartsSeen.{PartsSeen}
 use Rattle.xv_core.specs.Beginning.{AreFit}
-use Rattle.xv_top.proofs.replay_tests.started.Goals as goal
+use Rattle.xv_top_tests.proofs.replay_tests.started.Goals as goal
 
 job-kept : {E : Type 0} (found : Result Seen E) (p q : PartsSeen) (m : Seen) → p ≡ q → IfOk found (λ machine. machine ≡ m) → m.job ≡ p.job → IfOk found (λ machine. machine.job ≡ q.job)
 job-kept (Ok machine) p q m same is of_job = rw is (rw of_job (ap (λ (x : PartsSeen). x.job) same))

@@ -9,16 +9,15 @@ ghost use Rattle.xv_job.specs.Written.{job_of};
 ghost use Rattle.xv_script.specs.Script.{IsScriptOf};
 ghost use Rattle.xv_core.specs.Beginning.{IsDeviceFor, IsWireFor, AreFit, stream_room, back_room};
 
-use crate::input::read_input;
-use crate::replay_on;
 use std::alloc::Global;
 use std::test::Fail;
 use xv_base::{Init, NoMemory};
 use xv_core::{Migration, Parts};
 use xv_device::{DevicePlan, MemDevice};
-use xv_io::{MemSink, MemSource};
-use xv_job::Job;
-use xv_script::Line;
+use xv_io::MemSink;
+use xv_job::{Job, read_job};
+use xv_script::{Line, read_events};
+use xv_top::replay_on;
 use xv_wire::{MemWire, WirePlan};
 
 type Machine = Migration<MemDevice, MemDevice, MemWire>;
@@ -237,9 +236,11 @@ fn replayed(
 
 /// Whether all of a script's transcript was written, and what was.
 fn outcome(alloc: Global, case: &Case) -> Result<(bool, Vec<u8>), Fail> {
-    let mut source = MemSource::new(alloc, case.input, 64, &[])?;
-    let Ok((job, lines)) = read_input(alloc, &mut source) else {
-        return Err(Fail::new("no job and script"));
+    let Ok((job, place)) = read_job(alloc, case.input) else {
+        return Err(Fail::new("no job"));
+    };
+    let Ok(lines) = read_events(alloc, &job, &case.input[place.byte..], place.line) else {
+        return Err(Fail::new("no script"));
     };
     let mut sink = MemSink::new(alloc, case.room, 64, &[])?;
     let whole = replayed(alloc, job, &lines, case.piece.max(1), &mut sink)?;

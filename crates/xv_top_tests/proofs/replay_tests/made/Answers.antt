@@ -10,7 +10,7 @@ use Rattle.xv_core.specs.PartsSeen.{BareWire}
 use Rattle.xv_core.specs.Beginning.{IsWireFor, stream_room}
 use Rattle.xv_core.proofs.Beginning.Given.{bare_of}
 use Rattle.xv_core.proofs.Beginning.InMemory.{begins-with}
-use Rattle.xv_top.proofs.replay_tests.made.Goals as goal
+use Rattle.xv_top_tests.proofs.replay_tests.made.Goals as goal
 
 abbrev no_fault : Plan
 no_fault = record { reads = []; writes = []; flushes = [] }
