@@ -13,7 +13,7 @@ use Rattle.xv_top.specs.Outcome.{Outcome, ReadsQuietly, ReadsNothing, ReadsWithi
 use Rattle.xv_top.specs.Replay.{transcript}
 use Rattle.xv_top.specs.Top.{IsInput, IsReplayed, IsReplayCut, IsReplayShort}
 use Rattle.xv_top.specs.Driven.{drive_text, IsDriven}
-use Rattle.xv_top.specs.Promises.{IsRefusedBy, IsRefusalCut, IsReadFailed, IsOutOfMemory, IsGoodInput, HasNotFailed, IsComplete, IsOfCommand, ReplayPromise, DrivePromise}
+use Rattle.xv_top.specs.Promises.{IsRefusedBy, IsRefusalCut, IsReadFailed, IsOutOfMemory, IsGoodInput, IsComplete, IsOfCommand, ReplayPromise, DrivePromise}
 use Rattle.xv_top.specs.declared.command.Form.{Form}
 use Rattle.xv_top.specs.declared.command.Form.TheVariants.{Json}
 use Rattle.xv_top.specs.declared.program.Left.TheVariants.{Nothing}

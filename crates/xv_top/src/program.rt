@@ -1,6 +1,6 @@
 //! The top call of the program.
 
-ghost use Rattle.std.specs.Prelude.{ℕ, ◌≡◌, ◌≢◌, ◌<◌, ◌^◌, ◌⊎◌, false, map, IfOk, OnOk, IsErrOf, OnErr, string_bytes};
+ghost use Rattle.std.specs.Prelude.{ℕ, ◌≡◌, ◌<◌, ◌^◌, ◌⊎◌, false, map, IfOk, OnOk, IsErrOf, OnErr, string_bytes};
 ghost use Rattle.xv_base.specs.Calls.{CountRose};
 ghost use Rattle.xv_io.specs.Io.{TookMore, TookFront};
 ghost use Rattle.xv_job.specs.Written.{job_of};
