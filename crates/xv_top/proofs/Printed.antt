@@ -70,12 +70,12 @@ lines-answered old new (Ask unit ∷ ls) text kept source dest (mid, first, rest
     (first, rest, lines-answered old new ls rest kept source dest here, is)
 
 pub loses-in-memory : (m : Seen) → IsInMemory m → LosesNothing m
-loses-in-memory m h = loses-nothing m h.kept h.tells.source h.tells.dest
+loses-in-memory m h = loses-nothing m h.kept h.origin.tells.source h.origin.tells.dest
 
 pub zero-elsewhere : (m : Seen) → IsInMemory m → IsZeroElsewhere m
 zero-elsewhere m h = record {
   units = λ unit there off none.
-      (leaves-unwritten (begun_in_memory m.job) m h.kept h.unwritten).units unit off none
+      (leaves-unwritten (begun_in_memory m.job) m h.kept h.origin.unwritten).units unit off none
       ∙ get_or-map-range_with_len (λ (u : ℕ). first_content [] (size m.job.shape u) u) 0 (unit_count (job_of m.job)) unit unit [] there (omega arith);
 }
 
@@ -123,13 +123,13 @@ pub left-one : (P : Seen → Type 0) (m n : Seen) → First m ≡ First n → P 
 left-one P m n same p = let is : m ≡ n = cc in subst P is p
 
 -- a job's text ends with its line `end`
-before-end : Written → List (List (List ℕ))
+abbrev before-end : Written → List (List (List ℕ))
 before-end w = (machine_lines w ++ (limit_lines w.config ++ group_lines w)) ++ (cancel_lines w.config.cancel ++ (map fault_fields w.faults ++ (map init_fields w.init ++ flat_map guest_lines w.traces)))
 
 regroup : {X : Type 0} (m k g c f i t e : List X) → ((m ++ (k ++ g)) ++ (c ++ (f ++ (i ++ t)))) ++ e ≡ m ++ (k ++ (g ++ (c ++ (f ++ (i ++ (t ++ e))))))
 regroup m k g c f i t e = simp append_assoc
 
-job-ends : (w : Written) → job_text w ≡ text_of (before-end w) ++ codes "end" ++ 10 ∷ []
+job-ends : (w : Written) → job_text w ≡ text_of (before-end w) ++ (codes "end" ++ 10 ∷ [])
 job-ends w =
     let end : List (List (List ℕ)) = (codes "end" ∷ []) ∷ [] in
     let lines : job_lines w ≡ before-end w ++ end =

@@ -44,7 +44,7 @@ pub record IsPrinted (lines : List Line) (old new : Option (List ℕ)) (m : Seen
 -- so they were, and behind its line `end` the input has those lines; no line of a script is that one
 pub record PrintsAll (bytes old new : Option (List ℕ)) (m : Seen) : Type 0 where
   pub lines : List Line
-  pub input : IfSome bytes (λ xs. (front : List ℕ) × (xs ≡ front ++ codes "end" ++ 10 ∷ script_text lines))
+  pub input : IfSome bytes (λ xs. (front : List ℕ) × (xs ≡ front ++ (codes "end" ++ 10 ∷ script_text lines)))
   pub printed : IsPrinted lines old new m
 
 -- the input begins with the text of the migration's job

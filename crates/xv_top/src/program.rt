@@ -18,6 +18,7 @@ ghost use Rattle.xv_top.specs.Outcome.{input_over, output_over, outcome};
 ghost use Rattle.xv_top.specs.Command.{words_of, IsGoodCommand, IsNoCommand, IsCommand};
 ghost use Rattle.xv_top.specs.Promises.{ReplayPromise, WordsPromise, PromiseOf};
 ghost use Rattle.xv_top.specs.declared.command.Command.{Command as CommandName};
+ghost use Rattle.xv_top.specs.declared.command.Command.TheVariants.{Replay, Drive};
 ghost use Rattle.xv_top.specs.declared.command.Form.TheVariants.{Json};
 
 use crate::command::{Command, Form, command_of};
