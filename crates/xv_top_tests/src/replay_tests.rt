@@ -234,14 +234,26 @@ fn replayed(
     }
 }
 
+/// The lines of a script.
+#[tactic(auto, using(crate::proofs::Few::few))]
+fn lines_behind(alloc: Global, job: &Job, script: &[u8]) -> Result<Vec<Line>, Fail>
+    ensures { IfOk result (λ lines. IsScriptOf (job_of job.now) lines.items) }
+{
+    if script.len() > 4096 {
+        return Err(Fail::new("a script that is too long"));
+    }
+    match read_events(alloc, job, script, 1) {
+        Ok(lines) => Ok(lines),
+        Err(_) => Err(Fail::new("no script")),
+    }
+}
+
 /// Whether all of a script's transcript was written, and what was.
 fn outcome(alloc: Global, case: &Case) -> Result<(bool, Vec<u8>), Fail> {
     let Ok((job, place)) = read_job(alloc, case.input) else {
         return Err(Fail::new("no job"));
     };
-    let Ok(lines) = read_events(alloc, &job, &case.input[place.byte..], place.line) else {
-        return Err(Fail::new("no script"));
-    };
+    let lines = lines_behind(alloc, &job, &case.input[place.byte..])?;
     let mut sink = MemSink::new(alloc, case.room, 64, &[])?;
     let whole = replayed(alloc, job, &lines, case.piece.max(1), &mut sink)?;
     Ok((whole, sink.bytes().to_vec(alloc)?))
