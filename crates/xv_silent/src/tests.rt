@@ -73,9 +73,14 @@ fn begun_silent(alloc: Global, text: &[u8], rate: u32, seed: u32) -> Result<Sile
         wires,
         back,
     } = begun(alloc, text)?.into_parts();
-    let source = Silent::new(source, rate, seed);
-    let dest = Silent::new(dest, rate, !seed);
-    match Migration::start(alloc, job, source, dest, wires, back) {
+    let parts = Parts {
+        job,
+        source: Silent::new(source, rate, seed),
+        dest: Silent::new(dest, rate, !seed),
+        wires,
+        back,
+    };
+    match Migration::start(alloc, parts) {
         Ok(machine) => Ok(machine),
         Err(_parts) => Err(Fail::from(NoMemory)),
     }
