@@ -39,14 +39,14 @@ stream_room job = job.config.credit * most_bytes job.shape job.format
 abbrev pub back_room : Job → ℕ
 back_room job = HEAD_SIZE * job.config.credit
 
--- parts that a migration may begin with
-pub record AreFit (p : PartsSeen) : Type 0 where
+-- parts that a migration may begin with, where their wires tell this
+pub record AreFit {W : Type 0} (told : W → WireTold) (p : PartsSeen W) : Type 0 where
   pub source : IsDeviceFor (job_of p.job) p.source.told
   pub first : BeginsWithJob (job_of p.job) p.source.told
   pub dest : IsDeviceFor (job_of p.job) p.dest.told
   pub streams : length p.wires ≡ p.job.config.streams
-  pub wires : All (λ w. IsWireFor (stream_room (job_of p.job)) w.told) p.wires
-  pub back : IsWireFor (back_room (job_of p.job)) p.back.told
+  pub wires : All (λ w. IsWireFor (stream_room (job_of p.job)) (told w)) p.wires
+  pub back : IsWireFor (back_room (job_of p.job)) (told p.back)
 
 -- a wire on which nothing is gathered
 abbrev pub fresh_wire : WireTold → ℕ → OnWire

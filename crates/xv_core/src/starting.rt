@@ -7,7 +7,6 @@ ghost use Rattle.xv_dest.specs.Half.{fresh as fresh_dest};
 ghost use Rattle.xv_core.specs.Fresh.{IsReady, AreFresh};
 ghost use Rattle.xv_core.specs.State.{on_source, on_dest, on_wire, on_back};
 ghost use Rattle.xv_core.specs.Beginning.{IsDeviceFor, BeginsWithJob, IsWireFor, AreFit, stream_room, back_room, fresh_wire, begun};
-ghost use Rattle.xv_core.specs.PartsSeen.{unread};
 
 use crate::migration::Migration;
 use crate::rooms::Rooms;
@@ -33,12 +32,11 @@ pub struct Parts<S: UnitDevice, T: UnitDevice, W: Wire> {
 }
 
 impl<S: UnitDevice, T: UnitDevice, W: Wire> Model for Parts<S, T, W> {
-    ghost use Rattle.std.specs.Prelude.{map};
     ghost use Rattle.xv_core.specs.PartsSeen.{PartsSeen};
 
-    ghost Value = { PartsSeen };
+    ghost Value = { PartsSeen W };
 
-    ghost view = { λ p. record { job = p.job; source = record { told = S.told p.source; faults = S.faults p.source }; dest = record { told = T.told p.dest; faults = T.faults p.dest }; wires = map (λ w. record { told = W.told w; faults = W.faults w }) p.wires.items; back = record { told = W.told p.back; faults = W.faults p.back } } };
+    ghost view = { λ p. record { job = p.job; source = record { told = S.told p.source; faults = S.faults p.source }; dest = record { told = T.told p.dest; faults = T.faults p.dest }; wires = p.wires.items; back = p.back } };
 }
 
 impl<S: UnitDevice, T: UnitDevice, W: Wire> Migration<S, T, W> {
@@ -46,8 +44,8 @@ impl<S: UnitDevice, T: UnitDevice, W: Wire> Migration<S, T, W> {
     /// a device or a wire is made.
     /// Errors: want of memory, which hands all back.
     pub fn start(alloc: Global, parts: Parts<S, T, W>) -> Result<Migration<S, T, W>, Parts<S, T, W>>
-        requires { AreFit parts }
-        ensures begun { IfOk result (λ migration. migration ≡ begun parts.job parts.source parts.dest (map unread parts.wires) (unread parts.back)) }
+        requires { AreFit W.told parts }
+        ensures begun { IfOk result (λ migration. migration ≡ begun parts.job parts.source parts.dest (map (λ w. fresh_wire (W.told w) (W.faults w)) parts.wires) (fresh_wire (W.told parts.back) (W.faults parts.back))) }
         ensures again { IfErr result (λ again. again ≡ parts) }
     {
         Migration::with_parts(
@@ -79,8 +77,8 @@ impl<S: UnitDevice, T: UnitDevice, W: Wire> Migration<S, T, W> {
         ensures job { IfErr result (λ parts. parts.job ≡ job) }
         ensures source { IfErr result (λ parts. parts.source ≡ record { told = S.told source; faults = S.faults source }) }
         ensures dest { IfErr result (λ parts. parts.dest ≡ record { told = T.told dest; faults = T.faults dest }) }
-        ensures wires { IfErr result (λ parts. parts.wires ≡ map (λ w. record { told = W.told w; faults = W.faults w }) wires.items) }
-        ensures back { IfErr result (λ parts. parts.back ≡ record { told = W.told back; faults = W.faults back }) }
+        ensures wires { IfErr result (λ parts. parts.wires ≡ wires.items) }
+        ensures back { IfErr result (λ parts. parts.back ≡ back) }
     {
         let Some(rooms) = Rooms::new(alloc, &job) else {
             return Err(Parts {
@@ -125,8 +123,8 @@ impl<S: UnitDevice, T: UnitDevice, W: Wire> Migration<S, T, W> {
         ensures job { IfErr result (λ parts. parts.job ≡ job) }
         ensures source { IfErr result (λ parts. parts.source ≡ on_source source) }
         ensures dest { IfErr result (λ parts. parts.dest ≡ record { told = T.told dest; faults = T.faults dest }) }
-        ensures wires { IfErr result (λ parts. parts.wires ≡ map (λ w. record { told = W.told w; faults = W.faults w }) wires.items) }
-        ensures back { IfErr result (λ parts. parts.back ≡ record { told = W.told back; faults = W.faults back }) }
+        ensures wires { IfErr result (λ parts. parts.wires ≡ wires.items) }
+        ensures back { IfErr result (λ parts. parts.back ≡ back) }
     {
         match DestHalf::new(alloc, &job.layout, &job.config, dest) {
             Ok(dest) => Migration::with_halves(alloc, job, rooms, source, dest, wires, back),
@@ -163,8 +161,8 @@ impl<S: UnitDevice, T: UnitDevice, W: Wire> Migration<S, T, W> {
         ensures job { IfErr result (λ parts. parts.job ≡ job) }
         ensures source { IfErr result (λ parts. parts.source ≡ on_source source) }
         ensures dest { IfErr result (λ parts. parts.dest ≡ on_dest dest) }
-        ensures wires { IfErr result (λ parts. parts.wires ≡ map (λ w. record { told = W.told w; faults = W.faults w }) wires.items) }
-        ensures back { IfErr result (λ parts. parts.back ≡ record { told = W.told back; faults = W.faults back }) }
+        ensures wires { IfErr result (λ parts. parts.wires ≡ wires.items) }
+        ensures back { IfErr result (λ parts. parts.back ≡ back) }
     {
         match Streams::new(alloc, wires, job.layout, job.format) {
             Ok(streams) => Ok(Migration::join(

@@ -9,7 +9,6 @@ ghost use Rattle.xv_model.specs.Report.{probe as probe_of, totals as totals_of};
 ghost use Rattle.xv_model.specs.Work.{is_finished, all_ended_from};
 ghost use Rattle.xv_job.specs.Written.{job_of};
 ghost use Rattle.xv_core.specs.Seen.{view_of};
-ghost use Rattle.xv_core.specs.PartsSeen.{bare};
 ghost use Rattle.xv_core.specs.Keeping.{IsKept};
 
 use crate::migration::Migration;
@@ -172,8 +171,10 @@ impl<S: UnitDevice, T: UnitDevice, W: Wire> Migration<S, T, W> {
         ensures job { result.job ≡ self.job }
         ensures source { result.source ≡ self.source }
         ensures dest { result.dest ≡ self.dest }
-        ensures wires { result.wires ≡ map bare self.wires }
-        ensures back { result.back ≡ bare self.back }
+        ensures wires { map W.told result.wires ≡ map (λ w. w.told) self.wires }
+        ensures wires_faults { map W.faults result.wires ≡ map (λ w. w.faults) self.wires }
+        ensures back { W.told result.back ≡ self.back.told }
+        ensures back_faults { W.faults result.back ≡ self.back.faults }
     {
         let wires = self.streams.into_wires();
         Parts {

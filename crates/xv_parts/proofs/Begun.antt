@@ -7,8 +7,7 @@ use Rattle.xv_device.specs.Memory.{Device, fresh as fresh_device, told as told_d
 use Rattle.xv_wire.specs.Memory.{Pipe, told as told_pipe}
 use Rattle.xv_job.specs.Written.{Written, job_of}
 use Rattle.xv_core.specs.Seen.{OnDevice, OnWire}
-use Rattle.xv_core.specs.PartsSeen.{BareWire, unread}
-use Rattle.xv_core.specs.Beginning.{IsWireFor, stream_room, back_room, begun}
+use Rattle.xv_core.specs.Beginning.{IsWireFor, stream_room, back_room, fresh_wire, begun}
 use Rattle.xv_parts.specs.Plans.{source_plan, dest_plan, back_plan}
 use Rattle.xv_parts.specs.Memory.{pipe_begun, stream_pipe, stream_begun, device_begun, begun_in_memory}
 
@@ -40,11 +39,11 @@ module _ (w : Written) (wires : List Pipe) (are : wires ≡ map (stream_pipe w) 
 pub back-fits : (w : Written) → IsWireFor (back_room (job_of w)) (told_pipe (pipe_begun (back_room (job_of w)) (back_plan w.faults)))
 back-fits w = record { none = refl; no_piece = (refl, refl); little = omega arith; roomy = omega arith }
 
--- how wires are seen by themselves, and in a migration that has just begun
-abbrev pub bare_pipe : Pipe → BareWire
-bare_pipe p = record { told = told_pipe p; faults = p.faults }
+-- how a wire is seen in a migration that has just begun
+abbrev seen_pipe : Pipe → OnWire
+seen_pipe p = fresh_wire (told_pipe p) p.faults
 
-seen-each : (w : Written) (ns : List ℕ) → map unread (map bare_pipe (map (stream_pipe w) ns)) ≡ map (stream_begun w) ns
+seen-each : (w : Written) (ns : List ℕ) → map seen_pipe (map (stream_pipe w) ns) ≡ map (stream_begun w) ns
 seen-each w [] = refl
 seen-each w (n ∷ ns) = ap (λ (ws : List OnWire). stream_begun w n ∷ ws) (seen-each w ns)
 
@@ -55,13 +54,13 @@ seen_device d = record { told = told_device d; faults = device_faults d }
 pub begun-is : (w : Written) (source dest : Device) (wires : List Pipe) (back : Pipe) →
     source ≡ fresh_device w.shape w.init (source_plan w.faults) → dest ≡ fresh_device w.shape [] (dest_plan w.faults) →
     wires ≡ map (stream_pipe w) (range_with_len 0 w.config.streams) → back ≡ pipe_begun (back_room (job_of w)) (back_plan w.faults) →
-    begun w (record { told = told_device source; faults = device_faults source }) (record { told = told_device dest; faults = device_faults dest }) (map unread (map bare_pipe wires)) (unread (bare_pipe back)) ≡ begun_in_memory w
+    begun w (record { told = told_device source; faults = device_faults source }) (record { told = told_device dest; faults = device_faults dest }) (map (λ p. fresh_wire (told_pipe p) p.faults) wires) (fresh_wire (told_pipe back) back.faults) ≡ begun_in_memory w
 begun-is w source dest wires back s d ws b =
     let streams = range_with_len 0 w.config.streams in
     let at_source : OnDevice = device_begun w w.init (source_plan w.faults) in
     let at_dest : OnDevice = device_begun w [] (dest_plan w.faults) in
-    ap (λ (x : Device). begun w (seen_device x) (seen_device dest) (map unread (map bare_pipe wires)) (unread (bare_pipe back))) s
-    ∙ ap (λ (x : Device). begun w at_source (seen_device x) (map unread (map bare_pipe wires)) (unread (bare_pipe back))) d
-    ∙ ap (λ (x : List Pipe). begun w at_source at_dest (map unread (map bare_pipe x)) (unread (bare_pipe back))) ws
-    ∙ ap (λ (x : List OnWire). begun w at_source at_dest x (unread (bare_pipe back))) (seen-each w streams)
-    ∙ ap (λ (x : Pipe). begun w at_source at_dest (map (stream_begun w) streams) (unread (bare_pipe x))) b
+    ap (λ (x : Device). begun w (seen_device x) (seen_device dest) (map seen_pipe wires) (seen_pipe back)) s
+    ∙ ap (λ (x : Device). begun w at_source (seen_device x) (map seen_pipe wires) (seen_pipe back)) d
+    ∙ ap (λ (x : List Pipe). begun w at_source at_dest (map seen_pipe x) (seen_pipe back)) ws
+    ∙ ap (λ (x : List OnWire). begun w at_source at_dest x (seen_pipe back)) (seen-each w streams)
+    ∙ ap (λ (x : Pipe). begun w at_source at_dest (map (stream_begun w) streams) (seen_pipe x)) b

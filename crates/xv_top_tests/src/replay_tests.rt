@@ -186,7 +186,7 @@ fn made(alloc: Global, job: Job, piece: u32) -> Result<Made, NoMemory>
     requires stream { stream_room (job_of job) ≤ 480 }
     requires back { back_room (job_of job) ≤ 480 }
     ensures job { IfOk result (λ made. made.job ≡ job) }
-    ensures fit { IfOk result (λ made. AreFit made) }
+    ensures fit { IfOk result (λ made. AreFit told_wire made) }
 {
     let _ = job.operations();
     let source = device(alloc, &job, &job.init)?;
@@ -204,7 +204,7 @@ fn made(alloc: Global, job: Job, piece: u32) -> Result<Made, NoMemory>
 
 /// Starts a migration, and where there is no memory for it, once more from what is handed back.
 fn started(alloc: Global, made: Made) -> Result<Machine, Made>
-    requires { AreFit made }
+    requires { AreFit told_wire made }
     ensures { IfOk result (λ machine. machine.job ≡ made.job) }
 {
     match Migration::start(alloc, made) {

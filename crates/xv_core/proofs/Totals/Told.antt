@@ -17,8 +17,7 @@ use Rattle.xv_source.specs.Half.{IsSourceOf, unsent}
 use Rattle.xv_dest.specs.Half.{unwritten}
 use Rattle.xv_streams.specs.Streamed.{LaneSeen}
 use Rattle.xv_job.specs.Written.{job_of}
-use Rattle.xv_core.specs.Seen.{Seen, view_of}
-use Rattle.xv_core.specs.PartsSeen.{BareWire, bare}
+use Rattle.xv_core.specs.Seen.{Seen, OnWire, view_of}
 use Rattle.xv_core.specs.State.{State, IsRunning, view, seen_of, on_wire}
 use Rattle.xv_core.proofs.Keeping.Joined.{shows, is_source_of, view-holds}
 use Rattle.xv_core.proofs.Totals.OfUnit.{outstanding-of, count-of}
@@ -58,21 +57,14 @@ each-ended (t ∷ traces) history g h =
     each-ended traces history (g + 1) (λ k lt. sym (ap (λ (n : ℕ). nat_le (length (get_or traces k [])) (ended history n)) (next-guest g k)) ∙ h (suc k) (omega arith))
     ∙ sym (ap (λ (b : Bool). b && all_ended_from (g + 1) traces history) (sym (ap (λ (n : ℕ). nat_le (length t) (ended history n)) same) ∙ h 0 (omega arith)))
 
--- the wires that are handed out, with what they tell and their faults
-pub bare-wires : {W : Type 0} (told : W → WireTold) (faults : W → ℕ) (ws : List W) (lanes : List LaneSeen) → map told ws ≡ map (λ (l : LaneSeen). l.wire) lanes → map faults ws ≡ map (λ (l : LaneSeen). l.faults) lanes →
-    map (λ w. record { told = told w; faults = faults w }) ws ≡ map bare (map on_wire lanes)
-bare-wires told faults [] [] t f = refl
-bare-wires told faults [] (l ∷ ls) t f = absurd (cc)
-bare-wires told faults (w ∷ ws) [] t f = absurd (cc)
-bare-wires told faults (w ∷ ws) (l ∷ ls) t f =
-    let here : told w ≡ l.wire = cc in
-    let failed : faults w ≡ l.faults = cc in
-    let more : map told ws ≡ map (λ (x : LaneSeen). x.wire) ls = cc in
-    let others : map faults ws ≡ map (λ (x : LaneSeen). x.faults) ls = cc in
-    let first : BareWire = record { told = l.wire; faults = l.faults } in
-    let same : record { told = told w; faults = faults w } ≡ first = rw (here, failed) refl in
-    ap (λ (x : BareWire). x ∷ map (λ w. record { told = told w; faults = faults w }) ws) same
-    ∙ ap (λ (xs : List BareWire). first ∷ xs) (bare-wires told faults ws ls more others)
+-- the wires that are handed out tell what they told, and have their faults
+pub wires-told : (lanes : List LaneSeen) → map (λ (l : LaneSeen). l.wire) lanes ≡ map (λ (w : OnWire). w.told) (map on_wire lanes)
+wires-told [] = refl
+wires-told (l ∷ ls) = ap (λ (ts : List WireTold). l.wire ∷ ts) (wires-told ls)
+
+pub wires-faults : (lanes : List LaneSeen) → map (λ (l : LaneSeen). l.faults) lanes ≡ map (λ (w : OnWire). w.faults) (map on_wire lanes)
+wires-faults [] = refl
+wires-faults (l ∷ ls) = ap (λ (ns : List ℕ). l.faults ∷ ns) (wires-faults ls)
 
 -- the value of an option that is there
 pub some-is : (b : Bool) (at n : ℕ) → Some at ≡ (if b then Some n else None) → at ≡ n

@@ -1,14 +1,11 @@
 use Rattle.std.proofs.Common.{◌∙◌, ap, subst, sym}
-use Rattle.std.proofs.lemmas.List.{length-map}
-use Rattle.std.proofs.lemmas.List.Elements.{All-map}
 use Rattle.xv_device.specs.Memory.{Device}
 use Rattle.xv_wire.specs.Memory.{Pipe, told}
 use Rattle.xv_job.specs.Written.{job_of}
-use Rattle.xv_core.specs.PartsSeen.{BareWire}
-use Rattle.xv_core.specs.Beginning.{IsWireFor, stream_room, back_room}
+use Rattle.xv_core.specs.Beginning.{IsWireFor, back_room}
 use Rattle.xv_core.proofs.Beginning.InMemory.{begins-with}
 use Rattle.xv_parts.specs.Plans.{source_plan}
-use Rattle.xv_parts.proofs.Begun.{bare_pipe, wires-long, wires-fit, back-fits, begun-is}
+use Rattle.xv_parts.proofs.Begun.{wires-long, wires-fit, back-fits, begun-is}
 use Rattle.xv_parts.proofs.beginning.begin.Goals as goal
 
 pub start-requires : goal.start-requires
@@ -20,8 +17,8 @@ start-requires c =
       source = c.in_ok-source.ensures.fits;
       first = ap (λ (d : Device). d.contents) c.in_ok-source.ensures.begun ∙ begins-with job (source_plan w.faults);
       dest = c.in_ok-dest.ensures.fits;
-      streams = length-map wires bare_pipe ∙ wires-long w wires c.in_ok-wires.ensures;
-      wires = All-map (λ (b : BareWire). IsWireFor (stream_room job) b.told) bare_pipe wires (wires-fit w wires c.in_ok-wires.ensures);
+      streams = wires-long w wires c.in_ok-wires.ensures;
+      wires = wires-fit w wires c.in_ok-wires.ensures;
       back = subst (λ (p : Pipe). IsWireFor (back_room job) (told p)) (sym c.in_ok-back.ensures) (back-fits w);
     }
 

@@ -1,14 +1,8 @@
 use Rattle.std.proofs.Common.{List, ◌∙◌, [], ap}
-use Rattle.std.proofs.lemmas.List.{length-map}
-use Rattle.std.proofs.lemmas.List.Elements.{All-map}
 use Rattle.xv_base.specs.declared.pattern.Init.{Init}
 use Rattle.xv_device.specs.Device.{Plan}
 use Rattle.xv_device.specs.Memory.{Device, fresh}
-use Rattle.xv_wire.specs.Memory.{Pipe, told}
 use Rattle.xv_job.specs.Written.{Written, job_of}
-use Rattle.xv_core.specs.PartsSeen.{BareWire}
-use Rattle.xv_core.specs.Beginning.{IsWireFor, stream_room}
-use Rattle.xv_core.proofs.Beginning.Given.{bare_of}
 use Rattle.xv_core.proofs.Beginning.InMemory.{begins-with}
 use Rattle.xv_top_tests.proofs.replay_tests.made.Goals as goal
 
@@ -18,7 +12,6 @@ no_fault = record { reads = []; writes = []; flushes = [] }
 pub returns-clause-fit : goal.returns-clause-fit
 returns-clause-fit c =
     let job = c.args.job in
-    let wires = c.in_ok-wires.wires.items in
     record {
       source = c.in_ok-source.ensures.fits;
       first =
@@ -26,7 +19,7 @@ returns-clause-fit c =
           ∙ ap (λ (is : List Init). (fresh job.shape is no_fault).contents) (c.deref.ensures.value ∙ ap (λ (w : Written). w.init) c.job.view_is)
           ∙ begins-with (job_of job) no_fault;
       dest = c.in_ok-dest.ensures.fits;
-      streams = length-map wires (bare_of told (λ (p : Pipe). p.faults)) ∙ c.in_ok-wires.ensures.each_stream;
-      wires = All-map (λ (b : BareWire). IsWireFor (stream_room (job_of job)) b.told) (bare_of told (λ (p : Pipe). p.faults)) wires c.in_ok-wires.ensures.each;
+      streams = c.in_ok-wires.ensures.each_stream;
+      wires = c.in_ok-wires.ensures.each;
       back = c.in_ok-back.ensures.back;
     }

@@ -9,7 +9,6 @@ use Rattle.xv_core.specs.State.{on_source, on_dest, on_back}
 use Rattle.xv_core.specs.Beginning.{IsWireFor, stream_room, back_room, fresh_wire, begun}
 use Rattle.xv_core.specs.Fresh.{IsFreshLane}
 use Rattle.xv_core.proofs.Beginning.Begun.{fresh-each, fresh-wires, fresh-back}
-use Rattle.xv_core.proofs.Beginning.Given.{bare_of}
 use Rattle.xv_core.proofs.migration.Migration.with_halves.Goals as goal
 
 pub new-requires-clause-none : goal.new-requires-clause-none
@@ -44,6 +43,3 @@ returns-in-Ok-clause-begun g c =
     c.join.ensures
     ∙ ap (λ (ws : List OnWire). begun c.args.job (on_source c.args.source) (on_dest c.args.dest) ws (on_back c.new-in-Ok.result)) (fresh-wires g.W.Wire.told g.W.Wire.faults c.args.wires.items streams.lanes c.in-Ok.ensures.empty)
     ∙ ap (λ (b : OnWire). begun c.args.job (on_source c.args.source) (on_dest c.args.dest) wires b) (fresh-back (g.W.Wire.told c.args.back) (g.W.Wire.faults c.args.back) c.new-in-Ok.result back.gathered back.wire back.faults)
-
-pub returns-in-Err-clause-wires : goal.returns-in-Err-clause-wires
-returns-in-Err-clause-wires g c = ap (map (bare_of g.W.Wire.told g.W.Wire.faults)) c.in-Err.ensures.back
