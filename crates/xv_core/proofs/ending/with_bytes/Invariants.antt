@@ -1,6 +1,6 @@
 use Rattle.std.proofs.Common.{◌≡◌, ◌++◌, take}
 use Rattle.std.specs.Prelude.{vec_capacity}
-use Rattle.xv_core.proofs.ending.append.Given as goal
+use Rattle.xv_core.proofs.ending.with_bytes.Given as goal
 
 -- the first of the bytes are appended, in the memory that was there
 abbrev pub invariant-loop-byte : goal.invariant-loop-byte
