@@ -13,7 +13,6 @@ use Rattle.xv_model.specs.Wait.{Event, wait, fits}
 use Rattle.xv_model.specs.Invariant.{IsViewOf}
 use Rattle.xv_model.specs.Work.{is_finished}
 use Rattle.xv_model.specs.Driver.{driver_events, first_able, from_place, next_event}
-use Rattle.xv_job.specs.Written.{Written, job_of}
 use Rattle.xv_model.proofs.Drivers.{all_fit, driver_some}
 use Rattle.xv_model.proofs.Finished.{driver_none, none_finished}
 
@@ -80,10 +79,6 @@ able-behind job v i end e found can below within is says waits so_far =
     so_far
     ∙ ap (first_able job v) (one_on events i end below within ∙ ap (λ (x : Event). x ∷ drop (i + 1) (take end events)) (sym is))
     ∙ able-cons job v e (drop (i + 1) (take end events)) false (sym says ∙ waits)
-
--- the event at a number, of a job that is the same
-pub listed-of : (w u : Written) (i : ℕ) (e : Event) → u ≡ w → e ≡ get_or (driver_events (job_of u)) i Cancel → e ≡ get_or (driver_events (job_of w)) i Cancel
-listed-of w u i e same is = is ∙ ap (λ (x : Written). get_or (driver_events (job_of x)) i Cancel) same
 
 -- each event of the list is one of the job's
 list_all-at : (test : Event → Bool) (es : List Event) (i : ℕ) (d : Event) → i < length es → list_all test es ≡ true → test (get_or es i d) ≡ true

@@ -1,13 +1,14 @@
 -- The events of the driver's list by their numbers.
 use Rattle.std.specs.Prelude.{◌≡◌, ◌≤◌, ◌<◌, ℕ, zero, suc, ◌+◌, ◌-◌, ◌*◌, ◌/◌, ◌%◌, List, [], ◌∷◌, ◌++◌, length, get_or}
-use Rattle.std.proofs.Common.{arith, refl, sym, ap, ◌∙◌, inl, inr, append_assoc, length-append}
+use Rattle.std.proofs.Common.{arith, refl, sym, ap, subst, ◌∙◌, inl, inr, append_assoc, length-append}
 use Rattle.std.proofs.lemmas.Bool.{cases_lt}
 use Rattle.std.proofs.lemmas.List.{get_or_append_left, get_or-append_right}
 use Rattle.xv_base.specs.declared.event.Event.TheVariants.{Guest, Send, Deliver, Cancel}
 use Rattle.xv_model.specs.Job.{Job, guest_count}
 use Rattle.xv_model.specs.Wait.{Event}
 use Rattle.xv_model.specs.Driver.{for_each_below, driver_events}
-use Rattle.xv_driver.specs.Order.{copy_events, round_events, end_events, later_events}
+use Rattle.xv_job.specs.Written.{Written, job_of}
+use Rattle.xv_driver.specs.Order.{AreNumbersOf, copy_events, round_events, end_events, later_events}
 
 -- one event for each number
 length-each : (n : ℕ) (event : ℕ → Event) → length (for_each_below n (λ (k : ℕ). event k ∷ [])) ≡ n
@@ -135,17 +136,19 @@ is-copy job i guests disks same each from below =
     ∙ at-copies (length job.shape.disks) (i - guests) there
     )
 
-pub is-later : (job : Job) (i guests disks streams : ℕ) → guests ≡ guest_count job → disks ≡ length job.shape.disks → streams ≡ job.config.streams → guests + 4 * disks ≤ i → get_or (later_events streams) (i - guests - 4 * disks) Cancel ≡ get_or (driver_events job) i Cancel
+pub is-later : (job : Job) (i guests disks streams : ℕ) → guests ≡ guest_count job → disks ≡ length job.shape.disks → streams ≡ job.config.streams → guests + 4 * disks ≤ i → get_or (later_events streams) (i - (guests + 4 * disks)) Cancel ≡ get_or (driver_events job) i Cancel
 is-later job i guests disks streams same each all from =
     let count : length (copies_of job) ≡ 4 * disks = length-copies (length job.shape.disks) ∙ ap (λ (d : ℕ). 4 * d) (sym each) in
+    let rest : i - guests - 4 * disks ≡ i - (guests + 4 * disks) = omega arith in
     sym (
     behind-guests job i guests same (omega arith)
     ∙ get_or-append_right (copies_of job) (later_events job.config.streams) (4 * disks) (i - guests) Cancel count (omega arith)
     ∙ ap (λ (s : ℕ). get_or (later_events s) (i - guests - 4 * disks) Cancel) (sym all)
+    ∙ ap (λ (k : ℕ). get_or (later_events streams) k Cancel) rest
     )
 
 -- how many there are
-length-later : (streams : ℕ) → length (later_events streams) ≡ 2 * streams + 8
+pub length-later : (streams : ℕ) → length (later_events streams) ≡ 2 * streams + 8
 length-later streams =
     let parts : length (later_events streams) ≡ 2 + (length (sends_of streams) + (length (deliveries_of streams) + 6)) =
     ap (λ (l : List Event). length l) (later-in-parts streams) ∙ three-lengths (sends_of streams) (deliveries_of streams) in
@@ -170,5 +173,6 @@ length-listed job =
 pub counted : (job : Job) (guests disks streams : ℕ) → guests ≡ guest_count job → disks ≡ length job.shape.disks → streams ≡ job.config.streams → guests + 4 * disks + 2 + 2 * streams + 6 ≡ length (driver_events job)
 counted job guests disks streams same each all = omega (arith, length-listed job)
 
-pub is-within-later : (job : Job) (i guests disks streams : ℕ) → guests ≡ guest_count job → disks ≡ length job.shape.disks → streams ≡ job.config.streams → guests + 4 * disks ≤ i → i < length (driver_events job) → i - guests - 4 * disks < length (later_events streams)
-is-within-later job i guests disks streams same each all from below = omega (arith, length-listed job, length-later streams)
+-- the numbers of a job that is the same
+pub numbers-same : (u w : Written) (guests disks streams : ℕ) → u ≡ w → AreNumbersOf (job_of u) guests disks streams → AreNumbersOf (job_of w) guests disks streams
+numbers-same u w guests disks streams same of = subst (λ (x : Written). AreNumbersOf (job_of x) guests disks streams) same of

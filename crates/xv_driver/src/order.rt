@@ -1,10 +1,11 @@
 //! The driver's list of events, each by its number in it.
 
-ghost use Rattle.std.specs.Prelude.{◌≡◌, ◌<◌, ◌≤◌, ◌*◌, ◌/◌, ◌%◌, length, get_or};
+ghost use Rattle.std.specs.Prelude.{◌≡◌, ◌<◌, ◌≤◌, ◌+◌, ◌*◌, ◌^◌, ◌/◌, ◌%◌, length, get_or};
 ghost use Rattle.xv_base.specs.declared.event.Event.TheVariants.{Cancel};
+ghost use Rattle.xv_model.specs.Job.{Job as MachineJob};
 ghost use Rattle.xv_model.specs.Driver.{driver_events};
 ghost use Rattle.xv_job.specs.Written.{job_of};
-ghost use Rattle.xv_driver.specs.Order.{copy_events, round_events, end_events, later_events};
+ghost use Rattle.xv_driver.specs.Order.{AreNumbersOf, event_total, copy_events, round_events, end_events, later_events};
 
 use xv_base::{Event, GuestId};
 use xv_job::Job;
@@ -14,27 +15,48 @@ const ROUNDS: u8 = 2;
 
 const ENDS: u8 = 6;
 
+/// How many guests, disks and streams a job has: all that its list of events is made of.
+#[derive(Clone, Copy)]
+pub(crate) struct Numbers {
+    pub(crate) guests: u8,
+    pub(crate) disks: u8,
+    pub(crate) streams: u8,
+}
+
+/// The numbers of a job.
+pub(crate) fn numbers_of(job: &Job) -> Numbers
+    ensures of_job { AreNumbersOf (job_of job.now) result.guests result.disks result.streams }
+    ensures few { event_total result.guests result.disks result.streams < 2 ^ 8 }
+{
+    Numbers {
+        guests: job.guests(),
+        disks: job.layout.disks(),
+        streams: job.config.streams,
+    }
+}
+
 /// How many events the list has.
-pub(crate) fn event_count(job: &Job) -> u8
-    ensures exactly { result ≡ length (driver_events (job_of job.now)) }
+pub(crate) fn event_count(numbers: Numbers) -> u8
+    requires { event_total numbers.guests numbers.disks numbers.streams < 2 ^ 8 }
+    ensures exactly { (job : MachineJob) → AreNumbersOf job numbers.guests numbers.disks numbers.streams → result ≡ length (driver_events job) }
     ensures some { 0 < result }
 {
-    job.guests() + 4 * job.layout.disks() + ROUNDS + 2 * job.config.streams + ENDS
+    numbers.guests + 4 * numbers.disks + ROUNDS + 2 * numbers.streams + ENDS
 }
 
 /// The event of a number: the guests, each disk's copy, the rounds, the streams, the destination, and the ends.
-pub(crate) fn event_at(job: &Job, index: u8) -> Event
-    requires { index < length (driver_events (job_of job.now)) }
-    ensures { result ≡ get_or (driver_events (job_of job.now)) index Cancel }
+pub(crate) fn event_at(numbers: Numbers, index: u8) -> Event
+    requires few { event_total numbers.guests numbers.disks numbers.streams < 2 ^ 8 }
+    requires within { index < event_total numbers.guests numbers.disks numbers.streams }
+    ensures { (job : MachineJob) → AreNumbersOf job numbers.guests numbers.disks numbers.streams → result ≡ get_or (driver_events job) index Cancel }
 {
-    let guests = job.guests();
-    let copies = 4 * job.layout.disks();
-    if index < guests {
+    let copies = numbers.guests + 4 * numbers.disks;
+    if index < numbers.guests {
         Event::Guest(GuestId(index))
-    } else if index < guests + copies {
-        copy_event(index - guests)
+    } else if index < copies {
+        copy_event(index - numbers.guests)
     } else {
-        later_event(job.config.streams, index - guests - copies)
+        later_event(numbers.streams, index - copies)
     }
 }
 
@@ -53,7 +75,7 @@ fn copy_event(index: u8) -> Event
 
 /// The event of a number behind the disks.
 fn later_event(streams: u8, index: u8) -> Event
-    requires few { streams ≤ 8 }
+    requires few { 2 * streams + 8 < 2 ^ 8 }
     requires within { index < length (later_events streams) }
     ensures { result ≡ get_or (later_events streams) index Cancel }
 {
