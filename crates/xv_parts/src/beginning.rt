@@ -1,11 +1,12 @@
 //! How a migration begins in memory.
 
-ghost use Rattle.std.specs.Prelude.{◌≡◌, ◌≤◌, ◌<◌, ℕ, [], length, map, get_or, IfOk};
+ghost use Rattle.std.specs.Prelude.{◌≡◌, ◌≤◌, ◌<◌, ℕ, [], length, map, get_or, All, IfOk};
 ghost use Rattle.std.specs.List.{range_with_len};
 ghost use Rattle.xv_base.specs.Units.{units};
 ghost use Rattle.xv_device.specs.Memory.{fresh as fresh_device, told as told_device, no_init};
+ghost use Rattle.xv_wire.specs.Memory.{told as told_wire};
 ghost use Rattle.xv_job.specs.Written.{job_of};
-ghost use Rattle.xv_core.specs.Beginning.{IsDeviceFor, stream_room, back_room};
+ghost use Rattle.xv_core.specs.Beginning.{IsDeviceFor, BeginsWithJob, IsWireFor, stream_room, back_room};
 ghost use Rattle.xv_parts.specs.Plans.{source_plan, dest_plan, back_plan};
 ghost use Rattle.xv_parts.specs.Memory.{pipe_begun, stream_pipe, begun_in_memory};
 
@@ -34,10 +35,8 @@ const GROUP_HEAD: u32 = 44;
 pub fn begin(alloc: Global, job: Job) -> Result<Machine, NoMemory>
     ensures begun { IfOk result (λ machine. machine ≡ begun_in_memory job) }
 {
-    let source = source(alloc, &job)?;
-    let dest = dest(alloc, &job)?;
-    let wires = streams(alloc, &job)?;
-    let back = way_back(alloc, &job)?;
+    let (source, dest) = make_devices(alloc, &job)?;
+    let (wires, back) = make_wires(alloc, &job)?;
     let parts = Parts {
         job,
         source,
@@ -49,6 +48,36 @@ pub fn begin(alloc: Global, job: Job) -> Result<Machine, NoMemory>
         Ok(machine) => Ok(machine),
         Err(_parts) => Err(NoMemory),
     }
+}
+
+/// The devices of a job in memory, the source and then the destination: the source begins with the job's contents, and the
+/// destination with zeros; a call fails where the job's faults name its number. A migration of the job may begin with them.
+/// Errors: want of memory.
+pub fn make_devices(alloc: Global, job: &Job) -> Result<(MemDevice, MemDevice), NoMemory>
+    ensures source { IfOk result (λ made. made.0 ≡ fresh_device job.now.shape job.now.init (source_plan job.now.faults)) }
+    ensures dest { IfOk result (λ made. made.1 ≡ fresh_device job.now.shape [] (dest_plan job.now.faults)) }
+    ensures source_fits { IfOk result (λ made. IsDeviceFor (job_of job.now) (told_device made.0)) }
+    ensures source_begins { IfOk result (λ made. BeginsWithJob (job_of job.now) (told_device made.0)) }
+    ensures dest_fits { IfOk result (λ made. IsDeviceFor (job_of job.now) (told_device made.1)) }
+{
+    let source = source(alloc, job)?;
+    let dest = dest(alloc, job)?;
+    Ok((source, dest))
+}
+
+/// The wires of a job in memory, one for each stream in their order, and the wire back: nothing is in transit, each has room
+/// for the whole credit, and a call fails where the job's faults name its number. A migration of the job may begin with them.
+/// Errors: want of memory.
+pub fn make_wires(alloc: Global, job: &Job) -> Result<(Vec<MemWire>, MemWire), NoMemory>
+    ensures wires { IfOk result (λ made. made.0.items ≡ map (stream_pipe job.now) (range_with_len 0 job.now.config.streams)) }
+    ensures back { IfOk result (λ made. made.1 ≡ pipe_begun (back_room (job_of job.now)) (back_plan job.now.faults)) }
+    ensures each_stream { IfOk result (λ made. length made.0.items ≡ job.now.config.streams) }
+    ensures wires_fit { IfOk result (λ made. All (λ w. IsWireFor (stream_room (job_of job.now)) (told_wire w)) made.0.items) }
+    ensures back_fits { IfOk result (λ made. IsWireFor (back_room (job_of job.now)) (told_wire made.1)) }
+{
+    let wires = streams(alloc, job)?;
+    let back = way_back(alloc, job)?;
+    Ok((wires, back))
 }
 
 /// The source, whose units begin as the job says.

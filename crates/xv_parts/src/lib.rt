@@ -14,7 +14,7 @@ mod plans;
 #[cfg(test)]
 mod tests;
 
-pub use beginning::{Machine, begin};
+pub use beginning::{Machine, begin, make_devices, make_wires};
 pub use laws::{
     begins_in_memory, planned_calls_fail_alone, reads_are_the_guests, sides_are_the_guests,
     steps_are_planned, steps_stay_in_memory, writes_are_the_guests,
