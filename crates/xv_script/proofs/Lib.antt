@@ -1,3 +1,5 @@
 pub mod Few
 pub mod Sayings
 pub mod Scripts
+pub mod Ends
+pub mod Beginnings

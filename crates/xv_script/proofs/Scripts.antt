@@ -144,32 +144,32 @@ text_is_script job text first h =
     })
 
 -- the lines of a script, each as its fields
-abbrev stop_line : List (List ℕ)
+abbrev pub stop_line : List (List ℕ)
 stop_line = fields_said StopWord 0
 
-abbrev script_lines : List Line → List (List (List ℕ))
+abbrev pub script_lines : List Line → List (List (List ℕ))
 script_lines [] = stop_line ∷ []
 script_lines (l ∷ ls) = line_fields l ∷ script_lines ls
 
-text_of-script_lines : (lines : List Line) → text_of (script_lines lines) ≡ script_text lines
+pub text_of-script_lines : (lines : List Line) → text_of (script_lines lines) ≡ script_text lines
 text_of-script_lines [] = refl
 text_of-script_lines (l ∷ ls) =
     ap (λ (xs : List ℕ). xs ++ text_of (script_lines ls)) (line-fields_said (word_in l) (number_in l) ∙ ap text_said (line_back l))
     ∙ append_assoc (line_words l) (10 ∷ []) (text_of (script_lines ls))
     ∙ ap (λ (xs : List ℕ). line_words l ++ 10 ∷ xs) (text_of-script_lines ls)
 
-script_lines_plain : (job : Job) → AreSmall (counts_of job) → (lines : List Line) → list_all (is_in job) lines ≡ true → ArePlainLines (script_lines lines)
+pub script_lines_plain : (job : Job) → AreSmall (counts_of job) → (lines : List Line) → list_all (is_in job) lines ≡ true → ArePlainLines (script_lines lines)
 script_lines_plain job small [] h = ((omega arith, fields_plain (counts_of job) StopWord 0 small (omega arith)), tt)
 script_lines_plain job small (l ∷ ls) h =
     let a = and_parts (is_in job l) (list_all (is_in job) ls) h in
     ((omega arith, fields_plain (counts_of job) (word_in l) (number_in l) small (line_there job l a.0)), script_lines_plain job small ls a.1)
 
 -- the line of a word with the number of something that is there
-record IsGone (job : Job) (l : List (List ℕ)) (said : Option Line) : Type 0 where
-  no_fault : line_fault (counts_of job) l ≡ None
-  says : line_in l ≡ said
+pub record IsGone (job : Job) (l : List (List ℕ)) (said : Option Line) : Type 0 where
+  pub no_fault : line_fault (counts_of job) l ≡ None
+  pub says : line_in l ≡ said
 
-said_well : (job : Job) → AreSmall (counts_of job) → (word : Word) (n : ℕ) → n < count_of (counts_of job) (named word)
+pub said_well : (job : Job) → AreSmall (counts_of job) → (word : Word) (n : ℕ) → n < count_of (counts_of job) (named word)
     → IsGone job (fields_said word n) (line_said word n)
 said_well job small word n there =
     let b = behind_said (counts_of job) (named word) n small there in

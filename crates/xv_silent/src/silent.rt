@@ -3,7 +3,7 @@
 ghost use Rattle.std.specs.Prelude.{◌≡◌};
 ghost use Rattle.xv_base.specs.Calls.{next_count};
 ghost use Rattle.xv_device.specs.Told.{IsSized};
-ghost use Rattle.xv_silent.specs.Silent.{quiet};
+ghost use Rattle.xv_silent.specs.Silent.{quiet, next_state, fails_at};
 
 use std::marker::Model;
 use xv_base::{Failed, UnitId, one_more};
@@ -25,14 +25,14 @@ impl Model for Silent {
 
     ghost Value = { Quiet };
 
-    ghost view = { λ s. record { device = s.device; faults = s.faults } };
+    ghost view = { λ s. record { device = s.device; rate = s.rate; state = s.state; faults = s.faults } };
 }
 
 impl Silent {
     /// A device that holds what this one does. Of 256 calls about so many fail, whichever a generator picks that begins
     /// with this number.
     pub fn new(device: MemDevice, rate: u32, seed: u32) -> Silent
-        ensures exactly { result ≡ record { device = device; faults = 0 } }
+        ensures exactly { result ≡ record { device = device; rate = rate; state = seed; faults = 0 } }
         ensures sized { IsSized (quiet device) }
     {
         let _ = device.layout();
@@ -60,7 +60,8 @@ impl Silent {
 
     /// Whether the next call is to fail, by the generator's next number.
     fn fails(&mut self) -> bool
-        ensures same { self.new ≡ self.old }
+        ensures exactly { result ≡ fails_at (next_state self.old.state) self.old.rate }
+        ensures next { self.new ≡ record self.old { state = next_state self.old.state } }
         ensures sized { IsSized (quiet self.old.device) }
     {
         let _ = self.device.layout();

@@ -1,6 +1,5 @@
 -- What is printed and left, by what the journal tells.
-use Rattle.std.specs.Prelude.{◌≡◌, ◌<◌, ℕ, true, List, [], ◌∷◌, ◌++◌, length, drop, map, codes, Option, Some, None, IfSome, unwrap_or, ◌^◌, decimal}
-use Rattle.std.specs.List.{flat_map}
+use Rattle.std.specs.Prelude.{◌≡◌, ◌<◌, ℕ, true, List, [], ◌∷◌, ◌++◌, length, drop, codes, Option, Some, None, IfSome, unwrap_or, ◌^◌, decimal}
 use Rattle.std.proofs.Common.{refl, ap, sym, subst, ◌∙◌, arith, append_assoc}
 use Rattle.std.proofs.lemmas.List.FromFn.{get_or-map-range_with_len}
 use Rattle.xv_base.specs.Units.{size}
@@ -18,12 +17,12 @@ use Rattle.xv_model.proofs.Left.{guest_ended}
 use Rattle.xv_model.proofs.Finished.{finished}
 use Rattle.xv_model.proofs.Story.Runs.{story-is}
 use Rattle.xv_text.specs.Lines.{text_of}
-use Rattle.xv_text.proofs.Apart.{text_of-append}
 use Rattle.xv_script.specs.Lines.{turn_line, script_text}
+use Rattle.xv_script.specs.Script.{IsScriptOf}
+use Rattle.xv_script.proofs.Ends.{before-end, input-parts}
 use Rattle.xv_script.specs.declared.line.Line.{Line}
 use Rattle.xv_script.specs.declared.line.Line.TheVariants.{Step, Ask}
 use Rattle.xv_job.specs.Written.{Written, job_of}
-use Rattle.xv_job.specs.JobText.{machine_lines, limit_lines, group_lines, cancel_lines, fault_fields, init_fields, guest_lines, job_lines, job_text}
 use Rattle.xv_core.specs.Seen.{Seen, view_of}
 use Rattle.xv_core.specs.Keeping.{IsKept, tells, told_contents}
 use Rattle.xv_core.specs.Losing.{LosesNothing, read_between}
@@ -36,7 +35,7 @@ use Rattle.xv_report.specs.Texts.{image_text}
 use Rattle.xv_parts.specs.Sides.{sources, dests}
 use Rattle.xv_parts.proofs.Holding.{source-holds, dest-holds}
 use Rattle.xv_top.specs.Top.{IsInput}
-use Rattle.xv_top.specs.Replay.{totals_text, result_text}
+use Rattle.xv_top.specs.Replay.{input_text, totals_text, result_text}
 use Rattle.std.proofs.lemmas.Fmt.{decimal_injective}
 use Rattle.xv_top.specs.Command.{words_of}
 use Rattle.xv_top.specs.declared.command.Command.TheVariants.{Drive}
@@ -44,7 +43,7 @@ use Rattle.xv_top.specs.declared.command.Form.{Form}
 use Rattle.xv_top.specs.declared.program.Left.TheVariants.{First}
 use Rattle.xv_top.specs.Playing.{ArePlayed}
 use Rattle.xv_top.specs.Driven.{HasHandedOver}
-use Rattle.xv_top.specs.Printed.{adds, AreTold, IsPrinted, PrintsAll, IsOfInput, IsZeroElsewhere, HasEndedAll}
+use Rattle.xv_top.specs.Printed.{adds, PrintsJournal, IsPrinted, PrintsAll, IsOfInput, IsZeroElsewhere, HasEndedAll}
 
 adds-is : (e : Event) (a : Turn) → entry_of e a ≡ adds e a
 adds-is e (Done n) = refl
@@ -53,15 +52,15 @@ adds-is e Faulted = refl
 adds-is e (Wait why) = refl
 adds-is e (Failed cause) = refl
 
-pub lines-answered : (old new : Seen) (lines : List Line) (text : List ℕ) → IsKept old → tells old.source ≡ true → tells old.dest ≡ true → ArePlayed old lines new text → AreTold (job_of old.job) old.journal lines new.journal text
+pub lines-answered : (old new : Seen) (lines : List Line) (text : List ℕ) → IsKept old → tells old.source ≡ true → tells old.dest ≡ true → ArePlayed old lines new text → PrintsJournal (job_of old.job) old.journal lines new.journal text
 lines-answered old new [] text kept source dest played = (ap (λ (m : Seen). m.journal) played.0, played.1)
 lines-answered old new (Step e ∷ ls) text kept source dest (mid, first, rest, one, later, is) =
     let s = one.stepped in
     let job = job_of old.job in
     let journal : mid.journal ≡ old.journal ++ adds e one.answer = s.journal ∙ ap (λ (es : List Entry). old.journal ++ es) (adds-is e one.answer) in
     let on = lines-answered mid new ls rest one.kept (s.tells.source ∙ source) (s.tells.dest ∙ dest) later in
-    let on_job = subst (λ (w : Written). AreTold (job_of w) mid.journal ls new.journal rest) s.job on in
-    let on_journal = subst (λ (es : List Entry). AreTold job es ls new.journal rest) journal on_job in
+    let on_job = subst (λ (w : Written). PrintsJournal (job_of w) mid.journal ls new.journal rest) s.job on in
+    let on_journal = subst (λ (es : List Entry). PrintsJournal job es ls new.journal rest) journal on_job in
     let read : drop (length old.reads) mid.reads ≡ read_between job old.journal (old.journal ++ adds e one.answer) =
     reads-told old mid e one.answer kept one.kept s source dest ∙ ap (read_between job old.journal) journal in
     (one.answer, rest, on_journal, is ∙ ap (λ (line : List ℕ). line ++ rest) (one.line ∙ ap (turn_line e one.answer) read))
@@ -107,7 +106,7 @@ printed-begun form w m lines text a b c kept of_job inside played first rest =
     record {
       answers = text;
       report = report;
-      answered = subst (λ (x : Written). AreTold (job_of x) [] lines m.journal text) (sym of_job) (lines-answered (begun_in_memory w) m lines text kept refl refl played);
+      answered = subst (λ (x : Written). PrintsJournal (job_of x) [] lines m.journal text) (sym of_job) (lines-answered (begun_in_memory w) m lines text kept refl refl played);
       output =
           subst (λ (taken : List ℕ). TookMore a c taken)
           (sym (append_assoc text report image) ∙ ap (λ (xs : List ℕ). (text ++ report) ++ xs) (sides-told m inside))
@@ -122,36 +121,22 @@ printed-is form w start m lines text a b c is kept of_job inside played first re
 pub left-one : (P : Seen → Type 0) (m n : Seen) → First m ≡ First n → P m → P n
 left-one P m n same p = let is : m ≡ n = cc in subst P is p
 
--- a job's text ends with its line `end`
-abbrev before-end : Written → List (List (List ℕ))
-before-end w = (machine_lines w ++ (limit_lines w.config ++ group_lines w)) ++ (cancel_lines w.config.cancel ++ (map fault_fields w.faults ++ (map init_fields w.init ++ flat_map guest_lines w.traces)))
-
-regroup : {X : Type 0} (m k g c f i t e : List X) → ((m ++ (k ++ g)) ++ (c ++ (f ++ (i ++ t)))) ++ e ≡ m ++ (k ++ (g ++ (c ++ (f ++ (i ++ (t ++ e))))))
-regroup m k g c f i t e = simp append_assoc
-
-job-ends : (w : Written) → job_text w ≡ text_of (before-end w) ++ (codes "end" ++ 10 ∷ [])
-job-ends w =
-    let end : List (List (List ℕ)) = (codes "end" ∷ []) ∷ [] in
-    let lines : job_lines w ≡ before-end w ++ end =
-    sym (regroup (machine_lines w) (limit_lines w.config) (group_lines w) (cancel_lines w.config.cancel) (map fault_fields w.faults) (map init_fields w.init) (flat_map guest_lines w.traces) end) in
-    ap (λ (ls : List (List (List ℕ))). text_of ls) lines ∙ text_of-append (before-end w) end
-
-pub prints-all : (bytes old new : Option (List ℕ)) (w : Written) (m : Seen) (lines : List Line) → IfSome bytes (λ xs. IsInput xs w lines) → IsPrinted lines old new m → PrintsAll bytes old new m
-prints-all None old new w m lines input printed = record { lines = lines; input = tt; printed = printed }
-prints-all (Some xs) old new w m lines input printed =
-    let front = text_of (before-end w) in
-    record {
-      lines = lines;
-      input = (
-        front,
-        input.text ∙ ap (λ (text : List ℕ). text ++ script_text lines) (job-ends w) ∙ append_assoc front (codes "end" ++ 10 ∷ []) (script_text lines),
-      );
-      printed = printed;
-    }
+-- the lines that were answered are those behind the line that ends the job
+pub prints-all : (bytes old new : Option (List ℕ)) (w : Written) (m : Seen) (lines : List Line) → m.job ≡ w → IsScriptOf (job_of w) lines → IfSome bytes (λ xs. IsInput xs w lines) → IsPrinted lines old new m → PrintsAll bytes old new m
+prints-all bytes old new w m lines of_job script input printed = record {
+  lines = lines;
+  script = subst (λ (x : Written). IsScriptOf (job_of x) lines) (sym of_job) script;
+  input = behind bytes input;
+  printed = printed;
+}
+  where
+    behind : (o : Option (List ℕ)) → IfSome o (λ xs. IsInput xs w lines) → IfSome o (λ xs. (front : List ℕ) × (xs ≡ front ++ (codes "end" ++ 10 ∷ script_text lines)))
+    behind None read = tt
+    behind (Some xs) read = (text_of (before-end w), read.text ∙ input-parts w lines)
 
 pub of-input : (bytes : Option (List ℕ)) (w : Written) (m : Seen) (lines : List Line) → m.job ≡ w → IfSome bytes (λ xs. IsInput xs w lines) → IsOfInput bytes m
 of-input None w m lines of_job input = tt
-of-input (Some xs) w m lines of_job input = (script_text lines, input.text ∙ ap (λ (x : Written). job_text x ++ script_text lines) (sym of_job))
+of-input (Some xs) w m lines of_job input = (lines, input.text ∙ ap (λ (x : Written). input_text x lines) (sym of_job))
 
 -- a number that is said in words is one
 pub said-number : (words : List (List ℕ)) (n k : ℕ) → n < 2 ^ 16 → k < 2 ^ 16 → words ≡ words_of (Drive n) → words ≡ words_of (Drive k) → n ≡ k

@@ -15,10 +15,12 @@ mod driving;
 mod generating;
 mod handover;
 mod input;
+mod laws;
 mod output;
 mod playing;
 mod program;
 mod refusal;
 
+pub use laws::answered_lines_are_those_read;
 pub use playing::replay_on;
 pub use program::{Left, top};

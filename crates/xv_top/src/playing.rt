@@ -9,8 +9,7 @@ ghost use Rattle.xv_model.specs.Wait.{fits};
 ghost use Rattle.xv_job.specs.Written.{job_of};
 ghost use Rattle.xv_script.specs.Script.{is_in};
 ghost use Rattle.xv_script.specs.declared.line.Line.TheVariants.{Step, Ask};
-ghost use Rattle.xv_core.specs.Rising.{Rises, TakesRise};
-ghost use Rattle.xv_core.specs.Stepped.{KeepsUnwritten, TellsOn};
+ghost use Rattle.xv_core.specs.Origin.{HasOrigin};
 ghost use Rattle.xv_core.specs.Keeping.{IsKept, tells};
 ghost use Rattle.xv_core.specs.Losing.{LosesNothing};
 ghost use Rattle.xv_top.specs.Playing.{ArePlayed, IsCutShort, IsLineWritten, IsLineCut};
@@ -43,11 +42,7 @@ pub fn replay_on<S: UnitDevice, T: UnitDevice, W: Wire, O: Sink>(
     requires in_job { list_all (is_in (job_of migration.old.job)) lines.now ≡ true }
     ensures played { OnOk result ((text : List ℕ) × ArePlayed migration.old lines.now migration.new text × TookMore (O.taken sink.old) (O.taken sink.new) text) }
     ensures cut { OnErr result (IsCutShort migration.old lines.now migration.new (O.taken sink.old) (O.taken sink.new)) }
-    ensures job { migration.new.job ≡ migration.old.job }
-    ensures rises { Rises migration.old migration.new }
-    ensures takes_rise { TakesRise migration.old migration.new }
-    ensures unwritten { KeepsUnwritten migration.old migration.new }
-    ensures tells { TellsOn migration.old migration.new }
+    ensures origin { HasOrigin migration.old migration.new }
     ensures kept { IsKept migration.new }
     ensures loses_nothing { tells migration.old.source ≡ true → tells migration.old.dest ≡ true → LosesNothing migration.new }
     ensures fault { OnErr result (CountRose (O.faults sink.old) (O.faults sink.new)) }

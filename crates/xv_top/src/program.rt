@@ -73,9 +73,9 @@ pub fn top<I: Source, O: Sink>(
     // No write of a guest is lost: whatever migration is left, said by what its journal tells.
     ensures loses_nothing { (m : Seen) → left.new ≡ First m → LosesNothing m × IsZeroElsewhere m }
 
-    // `replay` prints that journal: the input begins with the text of its job, and the lines behind that were answered; the
-    // entries are theirs, each line says its answer with what the unmigrated guest reads there, and the image is what the
-    // devices hold.
+    // `replay` prints that journal: the input is the text of its job and of a script, and its lines behind a line `end`, which
+    // is in one place alone, were answered (law `answered_lines_are_those_read`); the entries are theirs, each line says its
+    // answer with what the unmigrated guest reads there, and the image is what the devices hold.
     ensures of_input { (form : FormName) (m : Seen) → map (λ w. string_bytes w) words.now ≡ words_of (Replay form) → left.new ≡ First m → IsOfInput (I.left input.old) m }
     ensures prints_all { (form : FormName) (m : Seen) → map (λ w. string_bytes w) words.now ≡ words_of (Replay form) → left.new ≡ First m → PrintsAll (I.left input.old) (O.taken output.old) (O.taken output.new) m }
 

@@ -20,7 +20,7 @@ loop-line-init g c = record {
 
 pub play_line-requires : goal.play_line-requires
 play_line-requires g c = record {
-  in_job = (line-in_job c.args.migration.now.job c.loop-line.migration.job c.args.lines.now c.loop-line.line-index no_line c.loop-line.invariant.later.job c.loop-line-test.true c.loop-line.invariant.in_job).0;
+  in_job = (line-in_job c.args.migration.now.job c.loop-line.migration.job c.args.lines.now c.loop-line.line-index no_line c.loop-line.invariant.later.origin.rises.same_job c.loop-line-test.true c.loop-line.invariant.in_job).0;
 }
 
 pub loop-line-preserved : goal.loop-line-preserved
@@ -29,7 +29,7 @@ loop-line-preserved g c =
     record {
       later = later_line c.args.migration.now c.loop-line.migration c.play_line.new.migration _ written.0 c.loop-line.invariant.later written.1;
       playing = playing-more c.args.migration.now c.loop-line.migration c.play_line.new.migration c.args.lines.now c.loop-line.line-index no_line (g.O.Sink.taken c.args.sink.now) (g.O.Sink.taken c.loop-line.sink) (g.O.Sink.taken c.play_line.new.sink) c.loop-line-test.true c.loop-line.invariant.playing written;
-      in_job = (line-in_job c.args.migration.now.job c.loop-line.migration.job c.args.lines.now c.loop-line.line-index no_line c.loop-line.invariant.later.job c.loop-line-test.true c.loop-line.invariant.in_job).1;
+      in_job = (line-in_job c.args.migration.now.job c.loop-line.migration.job c.args.lines.now c.loop-line.line-index no_line c.loop-line.invariant.later.origin.rises.same_job c.loop-line-test.true c.loop-line.invariant.in_job).1;
       quiet = c.in_ok-play_line.ensures.quiet ∙ c.loop-line.invariant.quiet;
     }
 
@@ -38,30 +38,10 @@ returns-in_err-play_line-clause-cut g c =
     err-with c.from_residual.result _
     (playing-cut c.args.migration.now c.loop-line.migration c.play_line.new.migration c.args.lines.now c.loop-line.line-index no_line (g.O.Sink.taken c.args.sink.now) (g.O.Sink.taken c.loop-line.sink) (g.O.Sink.taken c.play_line.new.sink) c.loop-line-test.true c.loop-line.invariant.playing c.in_err-play_line.ensures.front)
 
-pub returns-in_err-play_line-clause-rises : goal.returns-in_err-play_line-clause-rises
-returns-in_err-play_line-clause-rises g c =
+pub returns-in_err-play_line-clause-origin : goal.returns-in_err-play_line-clause-origin
+returns-in_err-play_line-clause-origin g c =
     let cut = c.in_err-play_line.ensures.front in
-    (later_line c.args.migration.now c.loop-line.migration c.play_line.new.migration _ cut.0 c.loop-line.invariant.later cut.1).rises
-
-pub returns-in_err-play_line-clause-takes_rise : goal.returns-in_err-play_line-clause-takes_rise
-returns-in_err-play_line-clause-takes_rise g c =
-    let cut = c.in_err-play_line.ensures.front in
-    (later_line c.args.migration.now c.loop-line.migration c.play_line.new.migration _ cut.0 c.loop-line.invariant.later cut.1).takes_rise
-
-pub returns-in_err-play_line-clause-unwritten : goal.returns-in_err-play_line-clause-unwritten
-returns-in_err-play_line-clause-unwritten g c =
-    let cut = c.in_err-play_line.ensures.front in
-    (later_line c.args.migration.now c.loop-line.migration c.play_line.new.migration _ cut.0 c.loop-line.invariant.later cut.1).unwritten
-
-pub returns-in_err-play_line-clause-tells : goal.returns-in_err-play_line-clause-tells
-returns-in_err-play_line-clause-tells g c =
-    let cut = c.in_err-play_line.ensures.front in
-    (later_line c.args.migration.now c.loop-line.migration c.play_line.new.migration _ cut.0 c.loop-line.invariant.later cut.1).tells
-
-pub returns-in_err-play_line-clause-job : goal.returns-in_err-play_line-clause-job
-returns-in_err-play_line-clause-job g c =
-    let cut = c.in_err-play_line.ensures.front in
-    (later_line c.args.migration.now c.loop-line.migration c.play_line.new.migration _ cut.0 c.loop-line.invariant.later cut.1).job
+    (later_line c.args.migration.now c.loop-line.migration c.play_line.new.migration _ cut.0 c.loop-line.invariant.later cut.1).origin
 
 pub returns-in_err-play_line-clause-kept : goal.returns-in_err-play_line-clause-kept
 returns-in_err-play_line-clause-kept g c =

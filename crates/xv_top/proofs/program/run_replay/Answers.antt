@@ -59,8 +59,9 @@ returns-in-Ok-replay-clause-loses_nothing g c = λ m is.
 pub returns-in-Ok-replay-clause-prints_all : goal.returns-in-Ok-replay-clause-prints_all
 returns-in-Ok-replay-clause-prints_all g c = λ m is.
     let text = subst (λ (lines : List Line). IfSome (g.I.Source.left c.args.input.now) (λ bytes. IsInput bytes c.in-Ok.found.0 lines)) (sym c.deref.ensures.value) c.in-Ok.ensures.text in
+    let script = subst (λ (lines : List Line). IsScriptOf (job_of c.in-Ok.found.0) lines) (sym c.deref.ensures.value) c.in-Ok.ensures.script in
     left-one (λ (n : Seen). PrintsAll (g.I.Source.left c.args.input.now) (g.O.Sink.taken c.args.output.now) (g.O.Sink.taken c.replay.new.output) n) c.in-Ok-replay.machine m is
-    (prints-all (g.I.Source.left c.args.input.now) (g.O.Sink.taken c.args.output.now) (g.O.Sink.taken c.replay.new.output) c.in-Ok.found.0 c.in-Ok-replay.machine c.deref.result.now text c.in-Ok-replay.ensures.printed)
+    (prints-all (g.I.Source.left c.args.input.now) (g.O.Sink.taken c.args.output.now) (g.O.Sink.taken c.replay.new.output) c.in-Ok.found.0 c.in-Ok-replay.machine c.deref.result.now c.in-Ok-replay.ensures.ran.of_job script text c.in-Ok-replay.ensures.printed)
 
 pub returns-in-Ok-replay-clause-of_input : goal.returns-in-Ok-replay-clause-of_input
 returns-in-Ok-replay-clause-of_input g c = λ m is.
