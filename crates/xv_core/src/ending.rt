@@ -3,7 +3,7 @@
 ghost use Rattle.std.specs.Prelude.{◌≡◌, ◌≤◌, ◌+◌, ◌++◌, false, length, vec_capacity, is_some};
 ghost use Rattle.xv_core.specs.Answered.{ended_by, read_by};
 
-use core::mem::replace_with;
+use std::mem::replace;
 use xv_base::{Ended, GuestId, Outcome, Turn, UnitOp};
 use xv_guest::History;
 
@@ -46,18 +46,19 @@ fn append(reads: &mut Vec<u8>, bytes: &[u8])
     ensures bytes { reads.new.items ≡ reads.old.items ++ bytes.now }
     ensures reserved { vec_capacity reads.new ≡ vec_capacity reads.old }
 {
-    replace_with(reads, bytes, with_bytes);
+    let none = Vec::new(*reads.allocator());
+    *reads = with_bytes(replace(reads, none), bytes);
 }
 
 /// The list with bytes behind it, for which there is room. It is moved here and back, since the bytes of a list that is
 /// owned are copied many at a time, and behind a reference one by one.
-fn with_bytes(mut reads: Vec<u8>, bytes: &[u8]) -> (Vec<u8>, ())
+fn with_bytes(mut reads: Vec<u8>, bytes: &[u8]) -> Vec<u8>
     requires room { length reads.items + length bytes.now ≤ vec_capacity reads }
-    ensures bytes { result.0.items ≡ reads.items ++ bytes.now }
-    ensures reserved { vec_capacity result.0 ≡ vec_capacity reads }
+    ensures bytes { result.items ≡ reads.items ++ bytes.now }
+    ensures reserved { vec_capacity result ≡ vec_capacity reads }
 {
     for byte in bytes {
         reads.push_reserved(*byte);
     }
-    (reads, ())
+    reads
 }
