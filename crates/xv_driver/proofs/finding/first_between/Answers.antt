@@ -7,8 +7,8 @@ use Rattle.xv_driver.proofs.Able.{listed-fits, able-here, able-behind}
 use Rattle.xv_driver.proofs.Listed.{counted}
 use Rattle.xv_driver.proofs.finding.first_between.Goals as goal
 
-pub event_at-requires-clause-within : goal.event_at-requires-clause-within
-event_at-requires-clause-within g c =
+pub event_at-event-requires-clause-within : goal.event_at-event-requires-clause-within
+event_at-event-requires-clause-within g c =
     let of = c.requires.of_job in
     omega (arith, counted (job_of c.args.migration.now.job) _ _ _ of.each_guest of.each_disk of.each_stream, c.requires.within, c.loop-index-test.true)
 

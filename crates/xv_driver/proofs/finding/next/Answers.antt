@@ -17,11 +17,11 @@ first_between-requires-clause-within g c =
     let of = numbers-same c.job.result.now m.job _ _ _ c.job.ensures c.numbers_of-numbers.ensures.of_job in
     omega (arith, c.event_count-count.ensures.exactly (job_of m.job) of)
 
-pub first_between-2-requires-clause-of_job : goal.first_between-2-requires-clause-of_job
-first_between-2-requires-clause-of_job g c = numbers-same c.job.result.now c.args.migration.now.job _ _ _ c.job.ensures c.numbers_of-numbers.ensures.of_job
+pub first_between-requires-2-clause-of_job : goal.first_between-requires-2-clause-of_job
+first_between-requires-2-clause-of_job g c = numbers-same c.job.result.now c.args.migration.now.job _ _ _ c.job.ensures c.numbers_of-numbers.ensures.of_job
 
-pub first_between-2-requires-clause-within : goal.first_between-2-requires-clause-within
-first_between-2-requires-clause-within g c =
+pub first_between-requires-2-clause-within : goal.first_between-requires-2-clause-within
+first_between-requires-2-clause-within g c =
     let m = c.args.migration.now in
     let of = numbers-same c.job.result.now m.job _ _ _ c.job.ensures c.numbers_of-numbers.ensures.of_job in
     let count = c.event_count-count.ensures.exactly (job_of m.job) of in
