@@ -1,0 +1,4 @@
+pub mod Growing
+pub mod Entering
+pub mod Mustering
+pub mod Summing

@@ -1,0 +1,6 @@
+pub mod NoOrigin
+pub mod Tallies
+pub mod Held
+pub mod Turns
+pub mod Crews
+pub mod FirstCrew

@@ -1,0 +1,52 @@
+//! One step under the lock: what is published of it, and what a guest's worker is told.
+
+ghost use Rattle.std.specs.Prelude.{◌≡◌, ◌≢◌, true};
+ghost use Rattle.xv_base.specs.declared.answer.Turn.TheVariants.{Wait};
+ghost use Rattle.xv_base.specs.declared.answer.Why.TheVariants.{TraceEnd};
+ghost use Rattle.xv_model.specs.Wait.{fits};
+ghost use Rattle.xv_job.specs.Written.{job_of};
+ghost use Rattle.xv_core.specs.Stepped.{IsStep};
+ghost use Rattle.xv_core.specs.Keeping.{IsKept};
+ghost use Rattle.xv_shared.specs.Held.{numbers_of};
+ghost use Rattle.xv_shared.specs.Turns.{told};
+
+use crate::numbers::numbers_after;
+use xv_base::{Event, Turn, Why};
+use xv_core::Migration;
+use xv_device::UnitDevice;
+use xv_progress::{Progress, Publisher};
+use xv_wire::Wire;
+
+/// One event of the migration, whose numbers are then published.
+pub(crate) fn step<S: UnitDevice, T: UnitDevice, W: Wire>(
+    migration: &mut Migration<S, T, W>,
+    publisher: &mut Publisher,
+    progress: &Progress,
+    event: Event,
+) -> Turn
+    requires fitting { fits (job_of migration.old.job) event ≡ true }
+    requires own { publisher.old.belongs ≡ progress.now }
+    requires last { publisher.old.numbers ≡ numbers_of migration.old }
+    ensures stepped { IsStep migration.old event result migration.new }
+    ensures before { IsKept migration.old }
+    ensures later { IsKept migration.new }
+    ensures published { publisher.new ≡ record { belongs = publisher.old.belongs; numbers = numbers_of migration.new } }
+{
+    let _ = migration.journal();
+    let turn = migration.step(event);
+    let _ = migration.journal();
+    let last = publisher.last();
+    progress.publish(publisher, numbers_after(&last, event, turn));
+    turn
+}
+
+/// The answer that a guest's worker is given.
+pub(crate) fn told(turn: Turn) -> Turn
+    ensures exactly { result ≡ told turn }
+    ensures never { result ≢ Wait TraceEnd }
+{
+    match turn {
+        Turn::Wait(Why::TraceEnd) => Turn::Wait(Why::NotNow),
+        _ => turn,
+    }
+}
