@@ -1,6 +1,7 @@
 -- How the numbers of progress grow in one step of a migration.
 use Rattle.std.proofs.Common.{◌≡◌, ℕ, ◌+◌, ◌-◌, ◌<◌, ◌≤◌, ◌^◌, not, Bool, true, false, length, List, [], ◌∷◌, ◌++◌, sum, sum_by, map, replicate, refl, sym, ap, subst, ◌∙◌, arith, length-append}
 use Rattle.std.proofs.lemmas.List.Folds.{sum_by-replicate}
+use Rattle.std.proofs.lemmas.List.Sums.{sum_by-cons}
 use Rattle.xv_base.specs.Units.{Shape}
 use Rattle.xv_base.specs.declared.unit.DiskShape.{DiskShape}
 use Rattle.xv_base.specs.declared.event.Event.TheVariants.{Guest, Begin, Read, Advance, Release, Round, Page, Send, Deliver, Apply, Ack, Credit, Stun, Switch, Cancel}
@@ -121,7 +122,7 @@ same-numbers x y h c a j = λ i. record { history = h i; copied = c i; applied =
 -- where nothing has happened all are 0
 no-cursors : (ds : List DiskShape) → sum_by (λ (d : Disk). d.cursor) (map (λ (_ : DiskShape). no_disk) ds) ≡ 0
 no-cursors [] = refl
-no-cursors (d ∷ ds) = no-cursors ds
+no-cursors (d ∷ ds) = omega (arith, sum_by-cons (λ (d : Disk). d.cursor) no_disk (map (λ (_ : DiskShape). no_disk) ds), no-cursors ds)
 
 none-applied : (n : ℕ) → sum (replicate n 0) ≡ 0
 none-applied n = omega (arith, sum_by-replicate (λ (k : ℕ). k) n 0)
@@ -131,3 +132,26 @@ first job journal none = subst (λ (j : List Entry). record { history = length (
 
 pub first-numbers : (m : Seen) → m.journal ≡ [] → numbers_of m ≡ no_numbers
 first-numbers m none = first (job_of m.job) m.journal none
+
+-- the numbers that are made from the last ones by an event and its answer are those of the migration after that step
+pub stepped-numbers : (m n : Seen) (e : Event) (a : Turn) (last x : Numbers) → IsKept m → fits (job_of m.job) e ≡ true → IsStep m e a n → last ≡ numbers_of m → x.history ≡ last.history + ends e a → x.copied ≡ last.copied + blocks_copied e a → x.applied ≡ last.applied + applies e a → x.journal ≡ last.journal + once (not (is_wait a)) → x ≡ numbers_of n
+stepped-numbers m n e a last x k f s l h c p j =
+    let g = grows m n e a k f s in
+    same-numbers x (numbers_of n)
+    (h ∙ (ap (λ (y : Numbers). y.history + ends e a) l ∙ sym g.history))
+    (c ∙ (ap (λ (y : Numbers). y.copied + blocks_copied e a) l ∙ sym g.copied_blocks))
+    (p ∙ (ap (λ (y : Numbers). y.applied + applies e a) l ∙ sym g.written))
+    (j ∙ (ap (λ (y : Numbers). y.journal + once (not (is_wait a))) l ∙ sym g.journal))
+
+-- and may be published behind them
+pub record MayFollow (last x : Numbers) : Type 0 where
+  pub parts : x.history + x.applied ≤ x.journal
+  pub rises : IsNotBelow last x
+  pub journal_fits : x.journal < 2 ^ 62
+  pub copied_fits : x.copied < 2 ^ 62
+
+pub may-follow : (m n : Seen) (e : Event) (a : Turn) (last x : Numbers) → IsKept m → IsKept n → fits (job_of m.job) e ≡ true → IsStep m e a n → last ≡ numbers_of m → x ≡ numbers_of n → MayFollow last x
+may-follow m n e a last x k l f s p q =
+    let t = small n l in
+    let at : MayFollow (numbers_of m) (numbers_of n) = record { parts = t.within; rises = none-below m n e a (grows m n e a k f s); journal_fits = omega (arith, t.journal); copied_fits = omega (arith, t.copied_blocks) } in
+    subst (λ (y : Numbers). MayFollow y x) (sym p) (subst (λ (y : Numbers). MayFollow (numbers_of m) y) (sym q) at)

@@ -1,4 +1,6 @@
 pub mod Growing
-pub mod Entering
-pub mod Mustering
+pub mod Entries
+pub mod Mustered
 pub mod Summing
+pub mod Holding
+pub mod Passing

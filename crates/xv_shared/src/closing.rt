@@ -7,7 +7,7 @@ ghost use Rattle.xv_shared.specs.Tallies.{once};
 ghost use Rattle.xv_shared.specs.Held.{by_kind, entries};
 ghost use Rattle.xv_shared.specs.Crews.{AreAll, sums, number, is_guest, done, queued, faulted, other};
 
-use crate::books::{Books, Shares};
+use crate::books::Shares;
 use crate::ledgers::Named;
 use crate::locked::Locked;
 use crate::passes::{GuestPass, Pass, WorkerPass};
@@ -35,28 +35,16 @@ pub(crate) fn end<S: UnitDevice, T: UnitDevice, W: Wire, D: Named, Q: Ledger, F:
         progress: _,
     } = locked;
     let _ = migration.journal();
-    audit(&mut books, &mut spare);
+    books.done.audit(&mut spare.done);
+    books.queued.audit(&mut spare.queued);
+    books.faulted.audit(&mut spare.faulted);
+    books.other.audit(&mut spare.other);
     gather(&mut spare, passes);
-    audit(&mut books, &mut spare);
+    books.done.audit(&mut spare.done);
+    books.queued.audit(&mut spare.queued);
+    books.faulted.audit(&mut spare.faulted);
+    books.other.audit(&mut spare.other);
     migration
-}
-
-/// Changes nothing, and tells how the shares stand to the books.
-fn audit<D: Named, Q: Ledger, F: Ledger, R: Ledger>(
-    books: &mut Books<D, Q, F, R>,
-    shares: &mut Shares<D, Q, F, R>,
-)
-    ensures books { books.new ≡ books.old }
-    ensures shares { shares.new ≡ shares.old }
-    ensures done { (shares.old.done.parts ≡ D.parts → shares.old.done.amount ≡ books.old.done.total) × (shares.old.done.parts ≡ 0 → shares.old.done.amount ≡ 0) }
-    ensures queued { (shares.old.queued.parts ≡ Q.parts → shares.old.queued.amount ≡ books.old.queued.total) × (shares.old.queued.parts ≡ 0 → shares.old.queued.amount ≡ 0) }
-    ensures faulted { (shares.old.faulted.parts ≡ F.parts → shares.old.faulted.amount ≡ books.old.faulted.total) × (shares.old.faulted.parts ≡ 0 → shares.old.faulted.amount ≡ 0) }
-    ensures other { (shares.old.other.parts ≡ R.parts → shares.old.other.amount ≡ books.old.other.total) × (shares.old.other.parts ≡ 0 → shares.old.other.amount ≡ 0) }
-{
-    books.done.audit(&mut shares.done);
-    books.queued.audit(&mut shares.queued);
-    books.faulted.audit(&mut shares.faulted);
-    books.other.audit(&mut shares.other);
 }
 
 /// Puts the shares of all passes together.

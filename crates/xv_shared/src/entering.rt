@@ -8,9 +8,9 @@ ghost use Rattle.xv_model.specs.Step.{is_wait};
 ghost use Rattle.xv_model.specs.Growth.{happened, is_queued, is_fault};
 ghost use Rattle.xv_shared.specs.Tallies.{pass_after, worker_after, guest_after, last_read, once};
 
+use crate::answers::{entered, is_done, is_fault, is_queued};
 use crate::books::{Books, count_if};
 use crate::ledgers::Named;
-use crate::numbers::entered;
 use crate::passes::{GuestPass, WorkerPass};
 use std::sync::ledger::Ledger;
 use xv_base::{Turn, Why, one_more};
@@ -76,7 +76,8 @@ impl<D: Named, Q: Ledger, F: Ledger> GuestPass<D, Q, F> {
         ensures bytes { take result into.new ≡ last_read self.now reads.now }
         ensures exactly { result ≡ length (last_read self.now reads.now) }
     {
-        copy_part(reads, self.read_at, self.read_length, into)
+        let last = at_most(behind(reads, self.read_at), self.read_length as usize);
+        copy(last, into)
     }
 }
 
@@ -104,33 +105,6 @@ impl<R: Ledger> WorkerPass<R> {
     }
 }
 
-fn is_done(turn: Turn) -> bool
-    ensures { result ≡ happened turn }
-{
-    match turn {
-        Turn::Done(_) => true,
-        Turn::Queued | Turn::Faulted | Turn::Wait(_) | Turn::Failed(_) => false,
-    }
-}
-
-fn is_queued(turn: Turn) -> bool
-    ensures { result ≡ is_queued turn }
-{
-    match turn {
-        Turn::Queued => true,
-        Turn::Done(_) | Turn::Faulted | Turn::Wait(_) | Turn::Failed(_) => false,
-    }
-}
-
-fn is_fault(turn: Turn) -> bool
-    ensures { result ≡ is_fault turn }
-{
-    match turn {
-        Turn::Faulted => true,
-        Turn::Done(_) | Turn::Queued | Turn::Wait(_) | Turn::Failed(_) => false,
-    }
-}
-
 fn place_after(place: usize, before: usize, later: usize) -> usize
     ensures { result ≡ (if nat_lt before later then before else place) }
 {
@@ -138,8 +112,10 @@ fn place_after(place: usize, before: usize, later: usize) -> usize
 }
 
 fn length_after(long: u32, before: usize, later: usize) -> u32
-    requires { later ≤ before + MOST_PATTERN }
-    ensures { result ≡ (if nat_lt before later then later - before else long) }
+    requires more { later ≤ before + MOST_PATTERN }
+    requires few { long ≤ MOST_PATTERN }
+    ensures exactly { result ≡ (if nat_lt before later then later - before else long) }
+    ensures few { result ≤ MOST_PATTERN }
 {
     if before < later {
         (later - before) as u32
@@ -148,16 +124,37 @@ fn length_after(long: u32, before: usize, later: usize) -> u32
     }
 }
 
-/// Copies a part of some bytes, as far as they go, and answers how many they are.
-fn copy_part(reads: &[u8], at: usize, long: u32, into: &mut [u8]) -> u32
-    requires few { long ≤ length into.old }
-    ensures bytes { take result into.new ≡ take long (drop at reads.now) }
-    ensures long { result ≡ length (take long (drop at reads.now)) }
+/// Copies some bytes to the front of others, and answers how many they are.
+fn copy(bytes: &[u8], into: &mut [u8]) -> u32
+    requires room { length bytes.now ≤ length into.old }
+    requires few { length bytes.now ≤ MOST_PATTERN }
+    ensures bytes { take result into.new ≡ bytes.now }
+    ensures exactly { result ≡ length bytes.now }
     ensures there { length into.new ≡ length into.old }
 {
-    let from = at.min(reads.len());
-    let to = reads.len().min(from + long as usize);
-    let bytes = &reads[from..to];
-    into[..bytes.len()].copy_from_slice(bytes);
-    bytes.len() as u32
+    let count = bytes.len();
+    into[..count].copy_from_slice(bytes);
+    count as u32
+}
+
+/// The bytes from a place on.
+fn behind(bytes: &[u8], place: usize) -> &[u8]
+    ensures { result.now ≡ drop place bytes.now }
+{
+    if place < bytes.len() {
+        &bytes[place..]
+    } else {
+        &[]
+    }
+}
+
+/// So many bytes, or all.
+fn at_most(bytes: &[u8], count: usize) -> &[u8]
+    ensures { result.now ≡ take count bytes.now }
+{
+    if count < bytes.len() {
+        &bytes[..count]
+    } else {
+        bytes
+    }
 }

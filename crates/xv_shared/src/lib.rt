@@ -20,6 +20,7 @@
 // - `Shared::fits` and `Shared::bound` tell of the origin's job without the lock.
 #![tactic(auto)]
 
+mod answers;
 mod books;
 mod closing;
 mod crew;

@@ -13,10 +13,11 @@ ghost use Rattle.xv_core.specs.Origin.{HasOrigin};
 ghost use Rattle.xv_shared.specs.Tallies.{guest_number, worker_after, pass_after, once};
 ghost use Rattle.xv_shared.specs.Turns.{IsGuestStep};
 
+use crate::answers::told;
 use crate::books::{Books, Shares};
 use crate::ledgers::Named;
 use crate::passes::{GuestPass, WorkerPass};
-use crate::turns::{step, told};
+use crate::turns::step;
 use std::marker::Model;
 use std::sync::Arc;
 use std::sync::ledger::Ledger;

@@ -54,7 +54,7 @@ pub(crate) fn make<D: Named, Q: Ledger, F: Ledger, R: Ledger>(
     ensures publisher { IfOk result (λ made. made.words.publisher ≡ record { belongs = arc_value made.words.progress; numbers = no_numbers }) }
     ensures reader { IfOk result (λ made. made.words.reader ≡ record { belongs = arc_value made.words.progress; numbers = no_numbers }) }
 {
-    let words = words(alloc)?;
+    let words = make_words(alloc)?;
     let (books, mut spare) = open(blanks);
     let passes = muster(alloc, job, &mut spare)?;
     Ok(Made {
@@ -66,7 +66,7 @@ pub(crate) fn make<D: Named, Q: Ledger, F: Ledger, R: Ledger>(
 }
 
 /// New words of progress.
-fn words(alloc: Global) -> Result<Words, NoMemory>
+fn make_words(alloc: Global) -> Result<Words, NoMemory>
     ensures held { IfOk result (λ words. arc_value words.held ≡ arc_value words.progress) }
     ensures publisher { IfOk result (λ words. words.publisher ≡ record { belongs = arc_value words.progress; numbers = no_numbers }) }
     ensures reader { IfOk result (λ words. words.reader ≡ record { belongs = arc_value words.progress; numbers = no_numbers }) }

@@ -1,11 +1,13 @@
 //! The numbers of progress after a step, from those before it.
 
-ghost use Rattle.std.specs.Prelude.{◌≡◌, ◌+◌, ◌<◌, ◌^◌, not};
+ghost use Rattle.std.specs.Prelude.{◌≡◌, ◌+◌, ◌<◌, ◌≤◌, ◌^◌, ℕ, not};
+ghost use Rattle.xv_base.specs.declared.event.Event.TheVariants.{Advance};
 ghost use Rattle.xv_model.specs.Step.{is_wait};
 ghost use Rattle.xv_model.specs.Growth.{ends, applies, blocks_copied};
 ghost use Rattle.xv_progress.specs.Numbers.{IsFit};
 ghost use Rattle.xv_shared.specs.Tallies.{once};
 
+use crate::answers::{entered, is_done, is_fault};
 use xv_base::{Event, Turn};
 use xv_progress::Numbers;
 
@@ -27,14 +29,24 @@ pub(crate) fn numbers_after(last: &Numbers, event: Event, turn: Turn) -> Numbers
 
 /// How many operations of guests an event ends: one, of a guest's event or a release, done or faulted.
 fn ended(event: Event, turn: Turn) -> u64
-    ensures { result ≡ ends event turn }
+    ensures exactly { result ≡ ends event turn }
+    ensures few { result ≤ 1 }
 {
     match event {
-        Event::Guest(_) | Event::Release(_) => match turn {
-            Turn::Done(_) | Turn::Faulted => 1,
-            Turn::Queued | Turn::Wait(_) | Turn::Failed(_) => 0,
-        },
-        _ => 0,
+        Event::Guest(_) | Event::Release(_) => u64::from(is_done(turn) || is_fault(turn)),
+        Event::Begin(_)
+        | Event::Read(_)
+        | Event::Advance(_)
+        | Event::Round
+        | Event::Page
+        | Event::Send(_)
+        | Event::Deliver(_)
+        | Event::Apply
+        | Event::Ack
+        | Event::Credit
+        | Event::Stun
+        | Event::Switch
+        | Event::Cancel => 0,
     }
 }
 
@@ -43,28 +55,56 @@ fn blocks(event: Event, turn: Turn) -> u64
     ensures exactly { result ≡ blocks_copied event turn }
     ensures few { result < 2 ^ 32 }
 {
-    match (event, turn) {
-        (Event::Advance(_), Turn::Done(note)) => u64::from(note.a),
-        _ => 0,
+    match event {
+        Event::Advance(_) => first_number(turn),
+        Event::Guest(_)
+        | Event::Begin(_)
+        | Event::Read(_)
+        | Event::Release(_)
+        | Event::Round
+        | Event::Page
+        | Event::Send(_)
+        | Event::Deliver(_)
+        | Event::Apply
+        | Event::Ack
+        | Event::Credit
+        | Event::Stun
+        | Event::Switch
+        | Event::Cancel => 0,
+    }
+}
+
+/// The first number that an advance tells, which is its region's length where it happened.
+fn first_number(turn: Turn) -> u64
+    ensures exactly { (disk : ℕ) → result ≡ blocks_copied (Advance disk) turn }
+    ensures few { result < 2 ^ 32 }
+{
+    match turn {
+        Turn::Done(note) => u64::from(note.a),
+        Turn::Queued | Turn::Faulted | Turn::Wait(_) | Turn::Failed(_) => 0,
     }
 }
 
 /// How many messages are written at the destination.
 fn applied(event: Event, turn: Turn) -> u64
-    ensures { result ≡ applies event turn }
+    ensures exactly { result ≡ applies event turn }
+    ensures few { result ≤ 1 }
 {
-    match (event, turn) {
-        (Event::Apply, Turn::Done(_)) => 1,
-        _ => 0,
-    }
-}
-
-/// How many entries of the journal an answer makes.
-pub(crate) fn entered(turn: Turn) -> u32
-    ensures { result ≡ once (not (is_wait turn)) }
-{
-    match turn {
-        Turn::Wait(_) => 0,
-        Turn::Done(_) | Turn::Queued | Turn::Faulted | Turn::Failed(_) => 1,
+    match event {
+        Event::Apply => u64::from(is_done(turn)),
+        Event::Guest(_)
+        | Event::Begin(_)
+        | Event::Read(_)
+        | Event::Advance(_)
+        | Event::Release(_)
+        | Event::Round
+        | Event::Page
+        | Event::Send(_)
+        | Event::Deliver(_)
+        | Event::Ack
+        | Event::Credit
+        | Event::Stun
+        | Event::Switch
+        | Event::Cancel => 0,
     }
 }

@@ -1,17 +1,16 @@
-//! One step under the lock: what is published of it, and what a guest's worker is told.
+//! One step under the lock, and what is published of it.
 
-ghost use Rattle.std.specs.Prelude.{◌≡◌, ◌≢◌, true};
-ghost use Rattle.xv_base.specs.declared.answer.Turn.TheVariants.{Wait};
-ghost use Rattle.xv_base.specs.declared.answer.Why.TheVariants.{TraceEnd};
+ghost use Rattle.std.specs.Prelude.{◌≡◌, true};
+ghost use Rattle.std.specs.Arc.{arc_value};
 ghost use Rattle.xv_model.specs.Wait.{fits};
 ghost use Rattle.xv_job.specs.Written.{job_of};
 ghost use Rattle.xv_core.specs.Stepped.{IsStep};
 ghost use Rattle.xv_core.specs.Keeping.{IsKept};
 ghost use Rattle.xv_shared.specs.Held.{numbers_of};
-ghost use Rattle.xv_shared.specs.Turns.{told};
 
 use crate::numbers::numbers_after;
-use xv_base::{Event, Turn, Why};
+use std::sync::Arc;
+use xv_base::{Event, Turn};
 use xv_core::Migration;
 use xv_device::UnitDevice;
 use xv_progress::{Progress, Publisher};
@@ -21,11 +20,11 @@ use xv_wire::Wire;
 pub(crate) fn step<S: UnitDevice, T: UnitDevice, W: Wire>(
     migration: &mut Migration<S, T, W>,
     publisher: &mut Publisher,
-    progress: &Progress,
+    progress: &Arc<Progress>,
     event: Event,
 ) -> Turn
     requires fitting { fits (job_of migration.old.job) event ≡ true }
-    requires own { publisher.old.belongs ≡ progress.now }
+    requires own { publisher.old.belongs ≡ arc_value progress.now }
     requires last { publisher.old.numbers ≡ numbers_of migration.old }
     ensures stepped { IsStep migration.old event result migration.new }
     ensures before { IsKept migration.old }
@@ -38,15 +37,4 @@ pub(crate) fn step<S: UnitDevice, T: UnitDevice, W: Wire>(
     let last = publisher.last();
     progress.publish(publisher, numbers_after(&last, event, turn));
     turn
-}
-
-/// The answer that a guest's worker is given.
-pub(crate) fn told(turn: Turn) -> Turn
-    ensures exactly { result ≡ told turn }
-    ensures never { result ≢ Wait TraceEnd }
-{
-    match turn {
-        Turn::Wait(Why::TraceEnd) => Turn::Wait(Why::NotNow),
-        _ => turn,
-    }
 }

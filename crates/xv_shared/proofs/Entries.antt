@@ -61,10 +61,6 @@ other-entry j e Faulted o = one_other j e Faulted o
 other-entry j e (Wait why) o = ap other_entries (append-nil j) ∙ none_more _
 other-entry j e (Failed cause) o = one_other j e (Failed cause) o
 
--- four numbers that are these
-pub same-kinds : (a b c d x y z w : ℕ) → a ≡ x → b ≡ y → c ≡ z → d ≡ w → by_kind a b c d ≡ by_kind x y z w
-same-kinds a b c d x y z w p q r s = λ i. by_kind (p i) (q i) (r i) (s i)
-
 -- a worker is told an answer of the same kind
 pub told-waits : (a : Turn) → is_wait (told a) ≡ is_wait a
 told-waits (Done n) = refl

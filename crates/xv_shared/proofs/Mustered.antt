@@ -1,7 +1,7 @@
 -- The first crew is whole.
 use Rattle.std.proofs.Common.{◌≡◌, ℕ, zero, suc, ◌+◌, ◌*◌, not, Bool, true, false, List, [], ◌∷◌, ◌++◌, length, refl, sym, ap, ◌∙◌, arith}
-use Rattle.std.specs.Prelude.{count_by}
-use Rattle.std.proofs.lemmas.List.Sums.{count_by-append}
+use Rattle.std.specs.Prelude.{count_by, if◌then◌else◌}
+use Rattle.std.proofs.lemmas.List.Sums.{sum_by-append, sum_by_push}
 use Rattle.xv_report.specs.declared.counts.Job1.{Job1}
 use Rattle.xv_report.specs.declared.counts.Job1.TheVariants.{Copier, Pager, Sender, Receiver, Applier}
 use Rattle.xv_model.specs.Job.{Job, guest_count}
@@ -13,15 +13,19 @@ use Rattle.xv_shared.specs.FirstCrew.{each_below, fresh_guest, fresh, first_crew
 -- how many pass a test that all of them pass, and that none passes
 all-pass : (test : Pass → Bool) (n : ℕ) (pass : ℕ → Pass) → ((k : ℕ) → test (pass k) ≡ true) → count_by test (each_below n pass) ≡ n
 all-pass test zero pass h = refl
-all-pass test (suc n) pass h = count_by-append test (each_below n pass) (pass n ∷ []) ∙ (rw (h n) (ap (λ (k : ℕ). k + 1) (all-pass test n pass h) ∙ omega arith))
+all-pass test (suc n) pass h =
+    let e : count_by test (each_below (suc n) pass) ≡ n + 1 = sum_by_push (λ (x : Pass). if test x then 1 else 0) (each_below n pass) (pass n) ∙ (ap (λ (b : Bool). count_by test (each_below n pass) + (if b then 1 else 0)) (h n) ∙ ap (λ (k : ℕ). k + 1) (all-pass test n pass h)) in
+    omega (arith, e)
 
 none-pass : (test : Pass → Bool) (n : ℕ) (pass : ℕ → Pass) → ((k : ℕ) → test (pass k) ≡ false) → count_by test (each_below n pass) ≡ 0
 none-pass test zero pass h = refl
-none-pass test (suc n) pass h = count_by-append test (each_below n pass) (pass n ∷ []) ∙ (rw (h n) (ap (λ (k : ℕ). k + 0) (none-pass test n pass h)))
+none-pass test (suc n) pass h =
+    let e : count_by test (each_below (suc n) pass) ≡ 0 + 0 = sum_by_push (λ (x : Pass). if test x then 1 else 0) (each_below n pass) (pass n) ∙ (ap (λ (b : Bool). count_by test (each_below n pass) + (if b then 1 else 0)) (h n) ∙ ap (λ (k : ℕ). k + 0) (none-pass test n pass h)) in
+    omega (arith, e)
 
 -- one list behind another, whose numbers are known
 behind : (test : Pass → Bool) (xs ys : List Pass) (m n : ℕ) → count_by test xs ≡ m → count_by test ys ≡ n → count_by test (xs ++ ys) ≡ m + n
-behind test xs ys m n p q = count_by-append test xs ys ∙ (λ i. p i + q i)
+behind test xs ys m n p q = sum_by-append (λ (x : Pass). if test x then 1 else 0) xs ys ∙ (λ i. p i + q i)
 
 guests-of : (job : Job) → count_by is_guest (first_crew job) ≡ guest_count job + (0 + (0 + (0 + (0 + 0))))
 guests-of job =
