@@ -90,6 +90,13 @@ told-fault Faulted = refl
 told-fault (Wait why) = refl
 told-fault (Failed cause) = refl
 
+pub told-failure : (a : Turn) → is_failure (told a) ≡ is_failure a
+told-failure (Done n) = refl
+told-failure Queued = refl
+told-failure Faulted = refl
+told-failure (Wait why) = refl
+told-failure (Failed cause) = refl
+
 -- a guest's event does not end the migration
 plain-holds : (a : Turn) → is_flagged a ≡ false → is_failure a ≡ false
 plain-holds (Done n) f = refl

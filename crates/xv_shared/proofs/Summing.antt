@@ -15,13 +15,13 @@ use Rattle.xv_shared.specs.Held.{ByKind, entries}
 abbrev together : ByKind → ℕ
 together k = k.done + k.queued + k.faulted + k.other
 
-by-pass : (p : Pass) → number p ≡ done p + queued p + faulted p + other p
+by-pass : {D Q F R : Type 0} (p : Pass D Q F R) → number p ≡ done p + queued p + faulted p + other p
 by-pass (Guest p) = omega arith
 by-pass (Other p) = omega arith
 
-by-passes : (ps : List Pass) → sum_by number ps ≡ sum_by done ps + sum_by queued ps + sum_by faulted ps + sum_by other ps
+by-passes : {D Q F R : Type 0} (ps : List (Pass D Q F R)) → sum_by number ps ≡ sum_by done ps + sum_by queued ps + sum_by faulted ps + sum_by other ps
 by-passes [] = refl
 by-passes (p ∷ ps) = omega (arith, by-pass p, by-passes ps, sum_by-cons number p ps, sum_by-cons done p ps, sum_by-cons queued p ps, sum_by-cons faulted p ps, sum_by-cons other p ps)
 
-pub all-numbers : (m : Seen) (ps : List Pass) → IsKept m → sums ps ≡ entries m.journal → sum_by number ps ≡ length m.journal
+pub all-numbers : {D Q F R : Type 0} (m : Seen) (ps : List (Pass D Q F R)) → IsKept m → sums ps ≡ entries m.journal → sum_by number ps ≡ length m.journal
 all-numbers m ps k s = by-passes ps ∙ (ap together s ∙ sym (run-kinds (job_of m.job) m.journal k.is_run))

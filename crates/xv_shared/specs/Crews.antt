@@ -8,50 +8,50 @@ use Rattle.xv_shared.specs.declared.passes.Pass.{Pass}
 use Rattle.xv_shared.specs.declared.passes.Pass.TheVariants.{Guest, Other}
 
 -- its worker, the number of its calls, and the number of entries that they made
-abbrev pub worker : Pass → Job1
+abbrev pub worker : {D Q F R : Type 0} → Pass D Q F R → Job1
 worker (Guest p) = GuestWorker p.guest
 worker (Other p) = p.worker
 
-abbrev pub calls : Pass → ℕ
+abbrev pub calls : {D Q F R : Type 0} → Pass D Q F R → ℕ
 calls (Guest p) = p.calls
 calls (Other p) = p.calls
 
-abbrev pub number : Pass → ℕ
+abbrev pub number : {D Q F R : Type 0} → Pass D Q F R → ℕ
 number (Guest p) = guest_number p
 number (Other p) = p.steps
 
 -- whether it is a guest's
-abbrev pub is_guest : Pass → Bool
+abbrev pub is_guest : {D Q F R : Type 0} → Pass D Q F R → Bool
 is_guest (Guest p) = true
 is_guest (Other p) = false
 
 -- how many operations have not begun: none of a worker that is no guest
-abbrev pub left : Pass → ℕ
+abbrev pub left : {D Q F R : Type 0} → Pass D Q F R → ℕ
 left (Guest p) = p.left
 left (Other p) = 0
 
 -- its entries by kind
-abbrev pub done : Pass → ℕ
+abbrev pub done : {D Q F R : Type 0} → Pass D Q F R → ℕ
 done (Guest p) = p.done
 done (Other p) = 0
 
-abbrev pub queued : Pass → ℕ
+abbrev pub queued : {D Q F R : Type 0} → Pass D Q F R → ℕ
 queued (Guest p) = p.queued
 queued (Other p) = 0
 
-abbrev pub faulted : Pass → ℕ
+abbrev pub faulted : {D Q F R : Type 0} → Pass D Q F R → ℕ
 faulted (Guest p) = p.faulted
 faulted (Other p) = 0
 
-abbrev pub other : Pass → ℕ
+abbrev pub other : {D Q F R : Type 0} → Pass D Q F R → ℕ
 other (Guest p) = 0
 other (Other p) = p.steps
 
-abbrev pub sums : List Pass → ByKind
+abbrev pub sums : {D Q F R : Type 0} → List (Pass D Q F R) → ByKind
 sums passes = by_kind (sum_by done passes) (sum_by queued passes) (sum_by faulted passes) (sum_by other passes)
 
 -- the passes are all that there are: as many of guests, and of others, as the ledgers have parts
-pub record AreAll (parts : ByKind) (passes : List Pass) : Type 0 where
+pub record AreAll {D Q F R : Type 0} (parts : ByKind) (passes : List (Pass D Q F R)) : Type 0 where
   pub done : count_by is_guest passes ≡ parts.done
   pub queued : count_by is_guest passes ≡ parts.queued
   pub faulted : count_by is_guest passes ≡ parts.faulted

@@ -9,20 +9,23 @@ use Rattle.xv_shared.specs.declared.passes.Pass.{Pass}
 use Rattle.xv_shared.specs.declared.passes.Pass.TheVariants.{Guest, Other}
 
 -- for each number below n, in rising order, a pass
-abbrev pub each_below : ℕ → (ℕ → Pass) → List Pass
+abbrev pub each_below : {D Q F R : Type 0} → ℕ → (ℕ → Pass D Q F R) → List (Pass D Q F R)
 each_below zero pass = []
 each_below (suc n) pass = each_below n pass ++ pass n ∷ []
 
 -- nothing has been called: of a guest all its operations are left
-abbrev pub fresh_guest : Job → ℕ → Pass
-fresh_guest job guest = Guest (record { guest = guest; calls = 0; done = 0; queued = 0; faulted = 0; left = length (trace job guest); read_at = 0; read_length = 0 })
+abbrev pub fresh_tally : Job → ℕ → GuestTally
+fresh_tally job guest = record { guest = guest; calls = 0; done = 0; queued = 0; faulted = 0; left = length (trace job guest); read_at = 0; read_length = 0 }
 
-abbrev pub fresh : Job1 → Pass
+abbrev pub fresh_guest : {D Q F R : Type 0} → Job → ℕ → Pass D Q F R
+fresh_guest job guest = Guest (fresh_tally job guest)
+
+abbrev pub fresh : {D Q F R : Type 0} → Job1 → Pass D Q F R
 fresh worker = Other (record { worker = worker; calls = 0; steps = 0 })
 
 -- in the order of the workers' numbers: each guest, a copier for each disk, the pager, a sender and a receiver for each
 -- stream, and the applier
-abbrev pub first_crew : Job → List Pass
+abbrev pub first_crew : {D Q F R : Type 0} → Job → List (Pass D Q F R)
 first_crew job =
     each_below (guest_count job) (fresh_guest job)
     ++ (each_below (length job.shape.disks) (λ disk. fresh (Copier disk))

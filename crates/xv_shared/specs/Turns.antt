@@ -14,7 +14,7 @@ use Rattle.xv_core.specs.Origin.{HasOrigin}
 use Rattle.xv_shared.specs.Tallies.{GuestTally, last_read}
 
 -- the answer that a guest's worker is given: that all operations have ended is for its pass to say
-abbrev why_told : Why → Why
+abbrev pub why_told : Why → Why
 why_told TraceEnd = NotNow
 why_told InQueue = InQueue
 why_told CancelDue = CancelDue

@@ -117,7 +117,10 @@ impl<S: UnitDevice, T: UnitDevice, W: Wire, D: Named, Q: Ledger, F: Ledger, R: L
     pub fn migration(&self) -> &Migration<S, T, W>
         ensures exactly { result.now ≡ self.now }
         ensures came { HasOrigin D.origin self.now }
+        ensures kept { IsKept self.now }
     {
+        // What every migration keeps is told with the journal.
+        let _ = self.migration.journal();
         &self.migration
     }
 }

@@ -4,11 +4,11 @@ ghost use Rattle.std.specs.Prelude.{◌≡◌, ◌+◌, ◌*◌, ◌<◌, ◌≤
 ghost use Rattle.xv_report.specs.declared.counts.Job1.TheVariants.{Copier, Sender, Receiver};
 ghost use Rattle.xv_model.specs.Job.{guest_count};
 ghost use Rattle.xv_job.specs.Written.{job_of};
-ghost use Rattle.xv_shared.specs.declared.passes.Pass.TheVariants.{Guest as OfGuest};
-ghost use Rattle.xv_shared.specs.FirstCrew.{each_below, fresh_guest, fresh, first_crew, other_count};
+ghost use Rattle.xv_shared.specs.FirstCrew.{each_below, fresh_tally, fresh_guest, fresh, first_crew, other_count};
 
 use crate::books::{Books, Shares};
 use crate::ledgers::{Blanks, Named};
+use crate::making::job_numbers;
 use crate::passes::{GuestPass, Pass, WorkerPass};
 use std::alloc::Global;
 use std::sync::ledger::{Ledger, Share};
@@ -75,8 +75,7 @@ pub(crate) fn muster<D: Named, Q: Ledger, F: Ledger, R: Ledger>(
     ensures no_faulted { OnOk result (shares.new.faulted.parts ≡ 0) }
     ensures no_other { OnOk result (shares.new.other.parts ≡ 0) }
 {
-    let disks = job.layout.disks();
-    let streams = job.config.streams;
+    let (_, _, disks, streams) = job_numbers(job);
     let mut passes = Vec::new(alloc);
     push_guests(&mut passes, job, shares)?;
     let share = &mut shares.other;
@@ -124,7 +123,7 @@ fn guest_pass<D: Named, Q: Ledger, F: Ledger, R: Ledger>(
     requires done { (0 < shares.old.done.parts) × (shares.old.done.amount ≡ 0) }
     requires queued { (0 < shares.old.queued.parts) × (shares.old.queued.amount ≡ 0) }
     requires faulted { (0 < shares.old.faulted.parts) × (shares.old.faulted.amount ≡ 0) }
-    ensures pass { OfGuest result ≡ fresh_guest (job_of job.now) guest.0 }
+    ensures pass { result ≡ fresh_tally (job_of job.now) guest.0 }
     ensures done { (shares.new.done.parts + 1 ≡ shares.old.done.parts) × (shares.new.done.amount ≡ 0) }
     ensures queued { (shares.new.queued.parts + 1 ≡ shares.old.queued.parts) × (shares.new.queued.amount ≡ 0) }
     ensures faulted { (shares.new.faulted.parts + 1 ≡ shares.old.faulted.parts) × (shares.new.faulted.amount ≡ 0) }

@@ -1,5 +1,5 @@
 use Rattle.std.proofs.Common.{◌≡◌, ◌+◌, not, sum_by}
-use Rattle.std.specs.Prelude.{count_by}
+use Rattle.std.specs.Prelude.{count_by, vec_len}
 use Rattle.xv_shared.specs.Crews.{is_guest, done, queued, faulted, other}
 use Rattle.xv_shared.proofs.closing.gather.Given as goal
 
@@ -15,3 +15,6 @@ invariant-loop-pass g l = record {
   faulted_amount : l.shares.faulted.amount + sum_by faulted l.passes.items ≡ l.initial.shares.faulted.amount + sum_by faulted l.initial.passes.items;
   other_amount : l.shares.other.amount + sum_by other l.passes.items ≡ l.initial.shares.other.amount + sum_by other l.initial.passes.items;
 }
+
+abbrev pub decreases-loop-pass : goal.decreases-loop-pass
+decreases-loop-pass g l = vec_len l.passes
