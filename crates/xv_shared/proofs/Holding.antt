@@ -54,7 +54,7 @@ pub record CountsOther (old new : ByKind) (a : Turn) : Type 0 where
   pub faulted : new.faulted ≡ old.faulted
   pub other : new.other ≡ old.other + once (not (is_wait a))
 
-same-four : (x y : ByKind) → x.done ≡ y.done → x.queued ≡ y.queued → x.faulted ≡ y.faulted → x.other ≡ y.other → x ≡ y
+pub same-four : (x y : ByKind) → x.done ≡ y.done → x.queued ≡ y.queued → x.faulted ≡ y.faulted → x.other ≡ y.other → x ≡ y
 same-four x y p q r s = λ i. record { done = p i; queued = q i; faulted = r i; other = s i }
 
 guest-counted : (j k : List Entry) (g : GuestId) (a : Turn) (old new : ByKind) → k ≡ j ++ entry_of (Guest g) a → old ≡ entries j → CountsGuest old new (told a) → new ≡ entries k

@@ -24,37 +24,68 @@ none-pass test (suc n) pass h =
     omega (arith, e)
 
 -- one list behind another, whose numbers are known
-behind : {D Q F R : Type 0} → (test : Pass D Q F R → Bool) (xs ys : List (Pass D Q F R)) (m n : ℕ) → count_by test xs ≡ m → count_by test ys ≡ n → count_by test (xs ++ ys) ≡ m + n
+behind : {A : Type 0} (test : A → Bool) (xs ys : List A) (m n : ℕ) → count_by test xs ≡ m → count_by test ys ≡ n → count_by test (xs ++ ys) ≡ m + n
 behind test xs ys m n p q = sum_by-append (λ x. if test x then 1 else 0) xs ys ∙ (λ i. p i + q i)
 
-guests-of : {D Q F R : Type 0} (job : Job) → count_by is_guest (first_crew {D = D} {Q = Q} {F = F} {R = R} job) ≡ guest_count job + (0 + (0 + (0 + (0 + 0))))
-guests-of job =
-    behind is_guest _ _ _ _ (all-pass is_guest (guest_count job) (fresh_guest job) (λ k. refl))
-    (behind is_guest _ _ _ _ (none-pass is_guest (length job.shape.disks) (λ k. fresh (Copier k)) (λ k. refl))
-    (behind is_guest (fresh Pager ∷ []) _ 0 _ refl
-    (behind is_guest _ _ _ _ (none-pass is_guest job.config.streams (λ k. fresh (Sender k)) (λ k. refl))
-    (behind is_guest _ _ _ _ (none-pass is_guest job.config.streams (λ k. fresh (Receiver k)) (λ k. refl)) refl))))
+-- the six kinds of workers
+abbrev guests : (D Q F R : Type 0) → Job → List (Pass D Q F R)
+guests D Q F R job = each_below (guest_count job) (fresh_guest job)
+
+abbrev copiers : (D Q F R : Type 0) → Job → List (Pass D Q F R)
+copiers D Q F R job = each_below (length job.shape.disks) (λ k. fresh (Copier k))
+
+abbrev pagers : (D Q F R : Type 0) → List (Pass D Q F R)
+pagers D Q F R = fresh Pager ∷ []
+
+abbrev senders : (D Q F R : Type 0) → Job → List (Pass D Q F R)
+senders D Q F R job = each_below job.config.streams (λ k. fresh (Sender k))
+
+abbrev receivers : (D Q F R : Type 0) → Job → List (Pass D Q F R)
+receivers D Q F R job = each_below job.config.streams (λ k. fresh (Receiver k))
+
+abbrev appliers : (D Q F R : Type 0) → List (Pass D Q F R)
+appliers D Q F R = fresh Applier ∷ []
+
+six-counts : {A : Type 0} (test : A → Bool) (g c w s v a : List A) (ng nc nw ns nv na : ℕ) → count_by test g ≡ ng → count_by test c ≡ nc → count_by test w ≡ nw → count_by test s ≡ ns → count_by test v ≡ nv → count_by test a ≡ na → count_by test (g ++ (c ++ (w ++ (s ++ (v ++ a))))) ≡ ng + (nc + (nw + (ns + (nv + na))))
+six-counts test g c w s v a ng nc nw ns nv na eg ec ew es ev ea =
+    behind test g (c ++ (w ++ (s ++ (v ++ a)))) ng (nc + (nw + (ns + (nv + na)))) eg
+    (behind test c (w ++ (s ++ (v ++ a))) nc (nw + (ns + (nv + na))) ec
+    (behind test w (s ++ (v ++ a)) nw (ns + (nv + na)) ew
+    (behind test s (v ++ a) ns (nv + na) es
+    (behind test v a nv na ev ea))))
+
+guests-of : (D Q F R : Type 0) (job : Job) → count_by (is_guest {D = D} {Q = Q} {F = F} {R = R}) (first_crew job) ≡ guest_count job + (0 + (0 + (0 + (0 + 0))))
+guests-of D Q F R job =
+    six-counts is_guest (guests D Q F R job) (copiers D Q F R job) (pagers D Q F R) (senders D Q F R job) (receivers D Q F R job) (appliers D Q F R) (guest_count job) 0 0 0 0 0
+    (all-pass {D = D} {Q = Q} {F = F} {R = R} is_guest (guest_count job) (fresh_guest job) (λ k. refl))
+    (none-pass {D = D} {Q = Q} {F = F} {R = R} is_guest (length job.shape.disks) (λ k. fresh (Copier k)) (λ k. refl))
+    refl
+    (none-pass {D = D} {Q = Q} {F = F} {R = R} is_guest job.config.streams (λ k. fresh (Sender k)) (λ k. refl))
+    (none-pass {D = D} {Q = Q} {F = F} {R = R} is_guest job.config.streams (λ k. fresh (Receiver k)) (λ k. refl))
+    refl
 
 abbrev others : {D Q F R : Type 0} → List (Pass D Q F R) → ℕ
-others = count_by (λ p. not (is_guest p))
+others passes = count_by (λ p. not (is_guest p)) passes
 
-others-of : {D Q F R : Type 0} (job : Job) → others (first_crew {D = D} {Q = Q} {F = F} {R = R} job) ≡ 0 + (length job.shape.disks + (1 + (job.config.streams + (job.config.streams + 1))))
-others-of job =
-    behind (λ p. not (is_guest p)) _ _ _ _ (none-pass (λ p. not (is_guest p)) (guest_count job) (fresh_guest job) (λ k. refl))
-    (behind (λ p. not (is_guest p)) _ _ _ _ (all-pass (λ p. not (is_guest p)) (length job.shape.disks) (λ k. fresh (Copier k)) (λ k. refl))
-    (behind (λ p. not (is_guest p)) (fresh Pager ∷ []) _ 1 _ refl
-    (behind (λ p. not (is_guest p)) _ _ _ _ (all-pass (λ p. not (is_guest p)) job.config.streams (λ k. fresh (Sender k)) (λ k. refl))
-    (behind (λ p. not (is_guest p)) _ _ _ _ (all-pass (λ p. not (is_guest p)) job.config.streams (λ k. fresh (Receiver k)) (λ k. refl)) refl))))
+others-of : (D Q F R : Type 0) (job : Job) → others {D = D} {Q = Q} {F = F} {R = R} (first_crew job) ≡ 0 + (length job.shape.disks + (1 + (job.config.streams + (job.config.streams + 1))))
+others-of D Q F R job =
+    six-counts (λ (p : Pass D Q F R). not (is_guest p)) (guests D Q F R job) (copiers D Q F R job) (pagers D Q F R) (senders D Q F R job) (receivers D Q F R job) (appliers D Q F R) 0 (length job.shape.disks) 1 job.config.streams job.config.streams 1
+    (none-pass {D = D} {Q = Q} {F = F} {R = R} (λ (p : Pass D Q F R). not (is_guest p)) (guest_count job) (fresh_guest job) (λ k. refl))
+    (all-pass {D = D} {Q = Q} {F = F} {R = R} (λ (p : Pass D Q F R). not (is_guest p)) (length job.shape.disks) (λ k. fresh (Copier k)) (λ k. refl))
+    refl
+    (all-pass {D = D} {Q = Q} {F = F} {R = R} (λ (p : Pass D Q F R). not (is_guest p)) job.config.streams (λ k. fresh (Sender k)) (λ k. refl))
+    (all-pass {D = D} {Q = Q} {F = F} {R = R} (λ (p : Pass D Q F R). not (is_guest p)) job.config.streams (λ k. fresh (Receiver k)) (λ k. refl))
+    refl
 
-pub first-all : {D Q F R : Type 0} → (job : Job) (d q f r : ℕ) (passes : List (Pass D Q F R)) → passes ≡ first_crew job → d ≡ guest_count job → q ≡ guest_count job → f ≡ guest_count job → r ≡ other_count job → AreAll (by_kind d q f r) passes
-first-all job d q f r passes first hd hq hf hr =
-    let guests : count_by is_guest passes ≡ guest_count job = ap (count_by is_guest) first ∙ (guests-of job ∙ omega arith) in
-    let rest : others passes ≡ other_count job = ap others first ∙ (others-of job ∙ omega arith) in
-    record { done = guests ∙ sym hd; queued = guests ∙ sym hq; faulted = guests ∙ sym hf; other = rest ∙ sym hr }
+pub first-all : {D Q F R : Type 0} (job : Job) (d q f r : ℕ) (passes : List (Pass D Q F R)) → passes ≡ first_crew job → d ≡ guest_count job → q ≡ guest_count job → f ≡ guest_count job → r ≡ other_count job → AreAll (by_kind d q f r) passes
+first-all {D = D} {Q = Q} {F = F} {R = R} job d q f r passes first hd hq hf hr =
+    let own : count_by is_guest passes ≡ guest_count job = ap (λ (ps : List (Pass D Q F R)). count_by is_guest ps) first ∙ (guests-of D Q F R job ∙ omega arith) in
+    let rest : others passes ≡ other_count job = ap (λ (ps : List (Pass D Q F R)). others ps) first ∙ (others-of D Q F R job ∙ omega arith) in
+    record { done = own ∙ sym hd; queued = own ∙ sym hq; faulted = own ∙ sym hf; other = rest ∙ sym hr }
 
 -- the lists of passes that were put behind one another
 pub put-together : {A : Type 0} (p0 p1 p2 p3 p4 p5 p6 g c w s v a : List A) → p0 ≡ [] → p1 ≡ p0 ++ g → p2 ≡ p1 ++ c → p3 ≡ p2 ++ w → p4 ≡ p3 ++ s → p5 ≡ p4 ++ v → p6 ≡ p5 ++ a → p6 ≡ g ++ (c ++ (w ++ (s ++ (v ++ a))))
-put-together p0 p1 p2 p3 p4 p5 p6 g c w s v a e0 e1 e2 e3 e4 e5 e6 =
+put-together {A = A} p0 p1 p2 p3 p4 p5 p6 g c w s v a e0 e1 e2 e3 e4 e5 e6 =
     let f1 : p1 ≡ g = e1 ∙ ap (λ (x : List A). x ++ g) e0 in
     let f2 : p2 ≡ g ++ c = e2 ∙ ap (λ (x : List A). x ++ c) f1 in
     let f3 : p3 ≡ g ++ (c ++ w) = e3 ∙ (ap (λ (x : List A). x ++ w) f2 ∙ append_assoc g c w) in

@@ -25,3 +25,11 @@ by-passes (p ∷ ps) = omega (arith, by-pass p, by-passes ps, sum_by-cons number
 
 pub all-numbers : {D Q F R : Type 0} (m : Seen) (ps : List (Pass D Q F R)) → IsKept m → sums ps ≡ entries m.journal → sum_by number ps ≡ length m.journal
 all-numbers m ps k s = by-passes ps ∙ (ap together s ∙ sym (run-kinds (job_of m.job) m.journal k.is_run))
+
+-- A share of no part, into which all parts of its ledger were put, has counted what the book says.
+pub settled : (parts amount total parts' amount' total' count sum put got all n : ℕ) → parts ≡ 0 → (parts ≡ 0 → amount ≡ 0) → parts' ≡ parts → amount' ≡ amount → total' ≡ total → put ≡ parts' + count → got ≡ amount' + sum → count ≡ all → (put ≡ all → got ≡ total') → total ≡ n → sum ≡ n
+settled parts amount total parts' amount' total' count sum put got all n none backed p a t put_is got_is whole audited counted =
+    let zero = backed none in
+    let full : put ≡ all = omega (arith, put_is, p, none, whole) in
+    let told = audited full in
+    omega (arith, got_is, a, zero, told, t, counted)

@@ -86,9 +86,9 @@ impl<S: UnitDevice, T: UnitDevice, W: Wire, D: Named, Q: Ledger, F: Ledger, R: L
             publisher,
             progress,
         } = self;
-        let read = migration.reads().len();
-        let turn = told(step(migration, publisher, progress, event));
-        pass.enter(turn, books, read, migration.reads().len());
+        let step = step(migration, publisher, progress, event);
+        let turn = told(step.turn);
+        pass.enter(turn, books, step.before, step.later);
         turn
     }
 
@@ -108,7 +108,7 @@ impl<S: UnitDevice, T: UnitDevice, W: Wire, D: Named, Q: Ledger, F: Ledger, R: L
             publisher,
             progress,
         } = self;
-        let turn = step(migration, publisher, progress, event);
+        let turn = step(migration, publisher, progress, event).turn;
         pass.enter(turn, books);
         turn
     }

@@ -12,10 +12,10 @@ step-turn-requires g c =
     }
 
 pub enter-requires : goal.enter-requires
-enter-requires g c = (few-totals g.D.Named.origin c.self.inside.migration _ _ _ _ c.self.invariant c.step-turn.ensures.before).other_few
+enter-requires g c = record { few = (few-totals g.D.Named.origin c.self.inside.migration _ _ _ _ c.self.invariant c.step-turn.ensures.kept).other_few }
 
 pub invariant_of-self : goal.invariant_of-self
 invariant_of-self g c =
     let e = c.enter.ensures in
-    held-other g.D.Named.origin c.self.inside.migration c.step-turn.new.migration c.args.event c.step-turn.result _ _ _ _ _ _ c.requires.other c.self.invariant c.step-turn.ensures.stepped
+    held-other g.D.Named.origin c.self.inside.migration c.step-turn.new.migration c.args.event c.step-turn.result.turn _ _ _ _ _ _ c.requires.other c.self.invariant c.step-turn.ensures.stepped
     (record { done = e.done; queued = e.queued; faulted = e.faulted; other = e.other }) c.step-turn.ensures.published
