@@ -116,7 +116,10 @@ fn a_row_is_played_through_the_passes(rt: HostRuntime) -> Result<(), Fail> {
     };
     assert_eq!(rt; shown, wanted);
     assert_eq!(rt; totals.phase, Phase::Switched);
-    assert_eq!(rt; (totals.history, totals.journal, totals.applied), (4, 19, 2));
+    assert_eq!(rt;
+        (totals.history, totals.journal, totals.applied),
+        (4, 19, 2)
+    );
     Ok(())
 }
 
@@ -214,12 +217,8 @@ fn worker_of(event: Event) -> Job1 {
         Event::Begin(disk) | Event::Read(disk) | Event::Advance(disk) | Event::Release(disk) => {
             Job1::Copier(disk)
         }
-        Event::Credit
-        | Event::Round
-        | Event::Page
-        | Event::Stun
-        | Event::Switch
-        | Event::Cancel => Job1::Pager,
+        Event::Credit | Event::Round | Event::Page | Event::Stun | Event::Switch | Event::Cancel =>
+            Job1::Pager,
         Event::Send(stream) => Job1::Sender(stream),
         Event::Deliver(stream) => Job1::Receiver(stream),
         Event::Apply | Event::Ack => Job1::Applier,

@@ -98,12 +98,7 @@ fn raced<
     F: Ledger + Send + Sync,
     R: Ledger + Send + Sync,
     X: Threads + Wait + Sync,
->(
-    rt: &X,
-    alloc: Global,
-    blanks: Blanks,
-    machine: Machine,
-) -> Result<Shown, Fail>
+>(rt: &X, alloc: Global, blanks: Blanks, machine: Machine) -> Result<Shown, Fail>
     requires none { machine.journal ≡ [] }
     requires came { HasOrigin D.origin machine }
     requires done { (blanks.done.name ≡ D.name) × (blanks.done.parts ≡ D.parts) × (D.parts ≡ guest_count (job_of D.origin.job)) }
@@ -180,11 +175,7 @@ fn race_and_read<
     F: Ledger + Send + Sync,
     R: Ledger + Send + Sync,
     X: Threads + Wait + Sync,
->(
-    rt: &X,
-    shared: &SharedMachine<D, Q, F, R>,
-    crew: &mut Crew<D, Q, F, R>,
-) -> bool
+>(rt: &X, shared: &SharedMachine<D, Q, F, R>, crew: &mut Crew<D, Q, F, R>) -> bool
     requires { crew.old.reader.belongs ≡ shared.now }
     ensures reader { crew.new.reader.belongs ≡ shared.now }
     ensures guests { count_by is_guest crew.new.passes.items ≡ count_by is_guest crew.old.passes.items }
@@ -252,11 +243,7 @@ fn race<
     F: Ledger + Send + Sync,
     R: Ledger + Send + Sync,
     X: Threads + Wait + Sync,
->(
-    rt: &X,
-    shared: &SharedMachine<D, Q, F, R>,
-    passes: &mut [Pass<D, Q, F, R>],
-)
+>(rt: &X, shared: &SharedMachine<D, Q, F, R>, passes: &mut [Pass<D, Q, F, R>])
     ensures guests { count_by is_guest passes.new ≡ count_by is_guest passes.old }
     ensures others { count_by (λ p. not (is_guest p)) passes.new ≡ count_by (λ p. not (is_guest p)) passes.old }
 {
