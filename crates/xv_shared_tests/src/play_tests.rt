@@ -32,47 +32,113 @@ struct Line {
     read: &'static [u8],
 }
 
-const fn done(event: Event, a: u32, b: u32) -> Line {
-    Line {
-        event,
-        turn: Turn::Done(Note { a, b }),
-        read: b"",
-    }
-}
-
-const fn guest(turn: Turn, read: &'static [u8]) -> Line {
+/// Two reads after the switch, of what the guest wrote before it and after it; a guest that waits has read what it had.
+const LINES: &[Line] = &[
     Line {
         event: Event::Guest(GuestId(0)),
-        turn,
-        read,
-    }
-}
-
-const DONE: Turn = Turn::Done(Note { a: 0, b: 0 });
-
-/// Two reads after the switch, of what the guest wrote before it and after it.
-const LINES: &[Line] = &[
-    guest(DONE, b""),
-    done(Event::Begin(0), 1, 0),
-    done(Event::Read(0), 1, 0),
-    done(Event::Advance(0), 1, 0),
-    done(Event::Round, 1, 0),
-    done(Event::Page, 0, 1),
-    done(Event::Send(0), 1, 1),
-    done(Event::Send(0), 0, 1),
-    done(Event::Deliver(0), 1, 1),
-    done(Event::Deliver(0), 0, 1),
-    done(Event::Apply, 1, 1),
-    done(Event::Apply, 0, 1),
-    done(Event::Ack, 2, 0),
-    done(Event::Credit, 2, 0),
-    done(Event::Stun, 0, 0),
-    guest(Turn::Wait(Why::Stunned), b""),
-    done(Event::Switch, 0, 0),
-    guest(DONE, b"\x5a\x5a"),
-    guest(DONE, b"\x5a\x5a"),
-    guest(DONE, b"\xa5\xa5"),
-    guest(Turn::Wait(Why::TraceEnd), b"\xa5\xa5"),
+        turn: Turn::Done(Note { a: 0, b: 0 }),
+        read: b"",
+    },
+    Line {
+        event: Event::Begin(0),
+        turn: Turn::Done(Note { a: 1, b: 0 }),
+        read: b"",
+    },
+    Line {
+        event: Event::Read(0),
+        turn: Turn::Done(Note { a: 1, b: 0 }),
+        read: b"",
+    },
+    Line {
+        event: Event::Advance(0),
+        turn: Turn::Done(Note { a: 1, b: 0 }),
+        read: b"",
+    },
+    Line {
+        event: Event::Round,
+        turn: Turn::Done(Note { a: 1, b: 0 }),
+        read: b"",
+    },
+    Line {
+        event: Event::Page,
+        turn: Turn::Done(Note { a: 0, b: 1 }),
+        read: b"",
+    },
+    Line {
+        event: Event::Send(0),
+        turn: Turn::Done(Note { a: 1, b: 1 }),
+        read: b"",
+    },
+    Line {
+        event: Event::Send(0),
+        turn: Turn::Done(Note { a: 0, b: 1 }),
+        read: b"",
+    },
+    Line {
+        event: Event::Deliver(0),
+        turn: Turn::Done(Note { a: 1, b: 1 }),
+        read: b"",
+    },
+    Line {
+        event: Event::Deliver(0),
+        turn: Turn::Done(Note { a: 0, b: 1 }),
+        read: b"",
+    },
+    Line {
+        event: Event::Apply,
+        turn: Turn::Done(Note { a: 1, b: 1 }),
+        read: b"",
+    },
+    Line {
+        event: Event::Apply,
+        turn: Turn::Done(Note { a: 0, b: 1 }),
+        read: b"",
+    },
+    Line {
+        event: Event::Ack,
+        turn: Turn::Done(Note { a: 2, b: 0 }),
+        read: b"",
+    },
+    Line {
+        event: Event::Credit,
+        turn: Turn::Done(Note { a: 2, b: 0 }),
+        read: b"",
+    },
+    Line {
+        event: Event::Stun,
+        turn: Turn::Done(Note { a: 0, b: 0 }),
+        read: b"",
+    },
+    Line {
+        event: Event::Guest(GuestId(0)),
+        turn: Turn::Wait(Why::Stunned),
+        read: b"",
+    },
+    Line {
+        event: Event::Switch,
+        turn: Turn::Done(Note { a: 0, b: 0 }),
+        read: b"",
+    },
+    Line {
+        event: Event::Guest(GuestId(0)),
+        turn: Turn::Done(Note { a: 0, b: 0 }),
+        read: b"\x5a\x5a",
+    },
+    Line {
+        event: Event::Guest(GuestId(0)),
+        turn: Turn::Done(Note { a: 0, b: 0 }),
+        read: b"\x5a\x5a",
+    },
+    Line {
+        event: Event::Guest(GuestId(0)),
+        turn: Turn::Done(Note { a: 0, b: 0 }),
+        read: b"\xa5\xa5",
+    },
+    Line {
+        event: Event::Guest(GuestId(0)),
+        turn: Turn::Wait(Why::TraceEnd),
+        read: b"\xa5\xa5",
+    },
 ];
 
 /// The workers of the job in their order, with their calls and their entries.
@@ -137,7 +203,7 @@ fn played<D: Named, Q: Ledger, F: Ledger, R: Ledger, X: Wait>(
     requires faulted { (blanks.faulted.name ≡ F.name) × (blanks.faulted.parts ≡ F.parts) × (F.parts ≡ guest_count (job_of D.origin.job)) }
     requires other { (blanks.other.name ≡ R.name) × (blanks.other.parts ≡ R.parts) × (R.parts ≡ other_count (job_of D.origin.job)) }
 {
-    match Shared::new(alloc, blanks, machine) {
+    match Shared::<MemDevice, MemDevice, MemWire, D, Q, F, R>::new(alloc, blanks, machine) {
         Ok((shared, mut crew)) => {
             let shown = shown(rt, &shared, &mut crew);
             let migration = shared.close(crew);
@@ -239,7 +305,7 @@ fn runs<D: Named, Q: Ledger, F: Ledger, R: Ledger, X: Wait>(
             let turn = shared.guest(rt, pass);
             let mut into = [0; 64];
             let long = shared.read_bytes(rt, pass, &mut into) as usize;
-            turn == line.turn && long <= 64 && into[..long] == *line.read
+            turn == line.turn && long <= 64 && &into[..long] == line.read
         }
         Pass::Other(pass) => {
             is_other(line.event)

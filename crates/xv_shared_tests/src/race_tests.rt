@@ -106,7 +106,7 @@ fn raced<
     requires faulted { (blanks.faulted.name ≡ F.name) × (blanks.faulted.parts ≡ F.parts) × (F.parts ≡ guest_count (job_of D.origin.job)) }
     requires other { (blanks.other.name ≡ R.name) × (blanks.other.parts ≡ R.parts) × (R.parts ≡ other_count (job_of D.origin.job)) }
 {
-    match Shared::new(alloc, blanks, machine) {
+    match Shared::<MemDevice, MemDevice, MemWire, D, Q, F, R>::new(alloc, blanks, machine) {
         Ok((shared, mut crew)) => {
             let rises = race_and_read(rt, &shared, &mut crew);
             let numbers = shared.progress(&mut crew.reader);
