@@ -65,7 +65,12 @@ fn run_all<
     ensures { HaveRun (4 * bound (job_of D.origin.job)) passes.old passes.new }
 {
     let threads = passes.len();
-    for_each_mut(rt, passes, threads, &|place, pass| run(rt, shared, gate, place, pass));
+    for_each_mut(
+        rt,
+        passes,
+        threads,
+        &|place, pass| run(rt, shared, gate, place, pass),
+    );
 }
 
 /// Runs the worker of one pass.
@@ -79,13 +84,7 @@ fn run<
     R: Ledger,
     G: Gate,
     X: Wait,
->(
-    rt: &X,
-    shared: &Shared<S, T, W, D, Q, F, R>,
-    gate: &G,
-    place: usize,
-    pass: &mut Pass<D, Q, F, R>,
-)
+>(rt: &X, shared: &Shared<S, T, W, D, Q, F, R>, gate: &G, place: usize, pass: &mut Pass<D, Q, F, R>)
     ensures { HasRun (4 * bound (job_of D.origin.job)) pass.old pass.new }
 {
     let number = u32::try_from(place).unwrap_or(u32::MAX);
@@ -139,13 +138,7 @@ fn run_other<
     R: Ledger,
     G: Gate,
     X: Wait,
->(
-    rt: &X,
-    shared: &Shared<S, T, W, D, Q, F, R>,
-    gate: &G,
-    number: u32,
-    pass: &mut WorkerPass<R>,
-)
+>(rt: &X, shared: &Shared<S, T, W, D, Q, F, R>, gate: &G, number: u32, pass: &mut WorkerPass<R>)
     ensures same { pass.new.worker ≡ pass.old.worker }
     ensures called { AreWithin (4 * bound (job_of D.origin.job)) pass.old.calls pass.new.calls }
 {
