@@ -4,3 +4,4 @@ pub mod Mustered
 pub mod Summing
 pub mod Holding
 pub mod Passing
+pub mod Running

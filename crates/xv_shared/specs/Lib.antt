@@ -4,3 +4,4 @@ pub mod Held
 pub mod Turns
 pub mod Crews
 pub mod FirstCrew
+pub mod Running
