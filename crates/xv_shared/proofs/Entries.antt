@@ -62,13 +62,6 @@ other-entry j e (Wait why) o = ap other_entries (append-nil j) ∙ none_more _
 other-entry j e (Failed cause) o = one_other j e (Failed cause) o
 
 -- a worker is told an answer of the same kind
-pub told-waits : (a : Turn) → is_wait (told a) ≡ is_wait a
-told-waits (Done n) = refl
-told-waits Queued = refl
-told-waits Faulted = refl
-told-waits (Wait why) = refl
-told-waits (Failed cause) = refl
-
 pub told-done : (a : Turn) → happened (told a) ≡ happened a
 told-done (Done n) = refl
 told-done Queued = refl

@@ -96,17 +96,6 @@ small m k = record {
   within = run-numbers_within (job_of m.job) m.journal k.good k.fitting k.is_run;
 }
 
-pub fit-numbers : (m : Seen) → IsKept m → IsFit (numbers_of m)
-fit-numbers m k =
-    let s = small m k in
-    record {
-      parts = s.within;
-      history_fits = omega (arith, s.history);
-      copied_fits = omega (arith, s.copied_blocks);
-      applied_fits = omega (arith, s.within, s.journal);
-      rest_fits = omega (arith, s.journal);
-    }
-
 pub none-below : (m n : Seen) (e : Event) (a : Turn) → Grows m n e a → IsNotBelow (numbers_of m) (numbers_of n)
 none-below m n e a g = record {
   history_rises = omega (arith, g.history);

@@ -97,7 +97,3 @@ fits-held origin m e h f = rw h.rises.same_job f
 
 pub fits-guest : (origin m : Seen) (g : GuestId) → HasOrigin origin m → g.0 < guest_count (job_of origin.job) → fits (job_of m.job) (Guest g) ≡ true
 fits-guest origin m g h l = fits-held origin m (Guest g) h (lt-ltb g.0 (guest_count (job_of origin.job)) l)
-
--- a step reads few bytes
-pub few-read : (m n : Seen) (e : Event) (a : Turn) → IsStep m e a n → length n.reads ≤ length m.reads + MOST_PATTERN
-few-read m n e a s = rw s.reads.behind (omega (arith, length-append m.reads s.reads.bytes, s.reads.few))

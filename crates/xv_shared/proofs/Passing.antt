@@ -8,17 +8,7 @@ use Rattle.xv_model.specs.Growth.{happened, is_queued, is_fault, is_failure}
 use Rattle.xv_shared.specs.Tallies.{GuestTally, WorkerTally, guest_after, pass_after, worker_after, IsCounted, guest_number, once}
 use Rattle.xv_shared.proofs.Entries.{one-kind}
 
--- tallies whose numbers are the same
-pub same-guest : (x y : GuestTally) → x.guest ≡ y.guest → x.calls ≡ y.calls → x.done ≡ y.done → x.queued ≡ y.queued → x.faulted ≡ y.faulted → x.left ≡ y.left → x.read_at ≡ y.read_at → x.read_length ≡ y.read_length → x ≡ y
-same-guest x y g c d q f l a r = λ i. record { guest = g i; calls = c i; done = d i; queued = q i; faulted = f i; left = l i; read_at = a i; read_length = r i }
-
-pub same-worker : (x y : WorkerTally) → x.worker ≡ y.worker → x.calls ≡ y.calls → x.steps ≡ y.steps → x ≡ y
-same-worker x y w c s = λ i. record { worker = w i; calls = c i; steps = s i }
-
 -- a pass that has moved is counted, wherever its last read stands
-pub counted-plain : (p q : GuestTally) (t : Turn) → q ≡ guest_after p t → IsCounted p t q
-counted-plain p q t e = subst (λ (x : GuestTally). IsCounted p t x) (sym e) refl
-
 pub counted-read : (p q : GuestTally) (t : Turn) (before later : ℕ) → q ≡ pass_after p t before later → IsCounted p t q
 counted-read p q t before later e = subst (λ (x : GuestTally). IsCounted p t x) (sym e) refl
 

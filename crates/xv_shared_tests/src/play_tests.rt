@@ -121,7 +121,7 @@ const LINES: &[Line] = &[
     },
     Line {
         event: Event::Guest(GuestId(0)),
-        turn: Turn::Done(Note { a: 0, b: 0 }),
+        turn: Turn::Done(Note { a: 2, b: 0 }),
         read: b"\x5a\x5a",
     },
     Line {
@@ -131,7 +131,7 @@ const LINES: &[Line] = &[
     },
     Line {
         event: Event::Guest(GuestId(0)),
-        turn: Turn::Done(Note { a: 0, b: 0 }),
+        turn: Turn::Done(Note { a: 2, b: 0 }),
         read: b"\xa5\xa5",
     },
     Line {
@@ -205,7 +205,7 @@ fn played<D: Named, Q: Ledger, F: Ledger, R: Ledger, X: Wait>(
 {
     match Shared::<MemDevice, MemDevice, MemWire, D, Q, F, R>::new(alloc, blanks, machine) {
         Ok((shared, mut crew)) => {
-            let shown = shown(rt, &shared, &mut crew);
+            let shown = play_all(rt, &shared, &mut crew);
             let migration = shared.close(crew);
             Ok((shown, migration.totals()))
         }
@@ -216,7 +216,7 @@ fn played<D: Named, Q: Ledger, F: Ledger, R: Ledger, X: Wait>(
 type SharedMachine<D, Q, F, R> = Shared<MemDevice, MemDevice, MemWire, D, Q, F, R>;
 
 /// Plays the lines, and looks at the passes and the numbers of progress.
-fn shown<D: Named, Q: Ledger, F: Ledger, R: Ledger, X: Wait>(
+fn play_all<D: Named, Q: Ledger, F: Ledger, R: Ledger, X: Wait>(
     rt: &X,
     shared: &SharedMachine<D, Q, F, R>,
     crew: &mut Crew<D, Q, F, R>,
