@@ -13,5 +13,5 @@ returns-clause-crew g c =
     let streams = c.job_numbers-disks.result.3 in
     crew-of job disks streams c.push_worker-2.new.passes.items c.job_numbers-disks.ensures.disks_are c.job_numbers-disks.ensures.streams_are
     (put-together c.new-passes.result.items c.push_guests.new.passes.items c.push_copiers.new.passes.items c.push_worker.new.passes.items c.push_senders.new.passes.items c.push_receivers.new.passes.items c.push_worker-2.new.passes.items
-      (each_below (guest_count job) (fresh_guest job)) (each_below disks (λ k. fresh (Copier k))) (fresh Pager ∷ []) (each_below streams (λ k. fresh (Sender k))) (each_below streams (λ k. fresh (Receiver k))) (fresh Applier ∷ [])
-      c.new-passes.ensures.items c.in_ok-push_guests.ensures.passes c.in_ok-push_copiers.ensures.passes c.in_ok-push_worker.ensures.passes c.in_ok-push_senders.ensures.passes c.in_ok-push_receivers.ensures.passes c.in_ok-push_worker-2.ensures.passes)
+    (each_below (guest_count job) (fresh_guest job)) (each_below disks (λ k. fresh (Copier k))) (fresh Pager ∷ []) (each_below streams (λ k. fresh (Sender k))) (each_below streams (λ k. fresh (Receiver k))) (fresh Applier ∷ [])
+    c.new-passes.ensures.items c.in_ok-push_guests.ensures.passes c.in_ok-push_copiers.ensures.passes c.in_ok-push_worker.ensures.passes c.in_ok-push_senders.ensures.passes c.in_ok-push_receivers.ensures.passes c.in_ok-push_worker-2.ensures.passes)
