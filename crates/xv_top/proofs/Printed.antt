@@ -93,7 +93,7 @@ ended-all m kept done over =
     }
 
 -- the answers, and behind them the report and the image
-sides-told : (m : Seen) → IsInMemory m → image_text (sources (job_of m.job) (view_of m)) (dests (job_of m.job) (view_of m)) ≡ image_text (told_contents m.source) (told_contents m.dest)
+pub sides-told : (m : Seen) → IsInMemory m → image_text (sources (job_of m.job) (view_of m)) (dests (job_of m.job) (view_of m)) ≡ image_text (told_contents m.source) (told_contents m.dest)
 sides-told m h =
     let source : sources (job_of m.job) (view_of m) ≡ told_contents m.source = sym (ap (λ (o : Option (List (List ℕ))). unwrap_or o []) (source-holds m h)) in
     let dest : dests (job_of m.job) (view_of m) ≡ told_contents m.dest = sym (ap (λ (o : Option (List (List ℕ))). unwrap_or o []) (dest-holds m h)) in

@@ -16,7 +16,7 @@ use Rattle.xv_top.specs.Replay.{totals_text, result_text}
 use Rattle.xv_top.specs.declared.command.Form.{Form}
 
 -- the contents of a device that is seen as one of the migration's
-contents-of : (d : Device) (t : Told) (contents : List (List ℕ)) → told d ≡ t → t.contents ≡ Some contents → d.contents ≡ contents
+pub contents-of : (d : Device) (t : Told) (contents : List (List ℕ)) → told d ≡ t → t.contents ≡ Some contents → d.contents ≡ contents
 contents-of d t contents is tells =
     let both : Some d.contents ≡ Some contents = ap (λ (x : Told). x.contents) is ∙ tells in
     cc

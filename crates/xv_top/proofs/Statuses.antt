@@ -96,7 +96,7 @@ no-fault : (found : Option LineFault) (fault : LineFault) → found ≡ None →
 no-fault None fault none some = absurd (cc)
 no-fault (Some other) fault none some = absurd (cc)
 
-not-refused : (fault_of : List ℕ → Option LineFault) (o : Outcome) → IsGoodInput fault_of o.input → IsRefusedBy fault_of o → ⊥
+pub not-refused : (fault_of : List ℕ → Option LineFault) (o : Outcome) → IsGoodInput fault_of o.input → IsRefusedBy fault_of o → ⊥
 not-refused fault_of o good refused =
     no-fault (fault_of good.bytes) refused.fault good.no_fault
     (subst (λ (told : Option (List ℕ)). IfSome told (λ xs. fault_of xs ≡ Some refused.fault)) good.told refused.refused)

@@ -40,7 +40,7 @@ pub fn write_result<O: Sink>(
 }
 
 /// Hands on all that the output has taken.
-fn hand_on<O: Sink>(output: &mut O) -> Result<(), WriteFault>
+pub fn hand_on<O: Sink>(output: &mut O) -> Result<(), WriteFault>
     ensures flushed { OnOk result (O.keeps_back output.new ≡ false) }
     ensures stays { O.taken output.new ≡ O.taken output.old }
     ensures fault { OnErr result (CountRose (O.faults output.old) (O.faults output.new)) }
@@ -72,7 +72,7 @@ fn write_totals<O: Sink>(
 }
 
 /// The layout of both devices of a job.
-fn layout_of(job: &Job) -> &Layout
+pub fn layout_of(job: &Job) -> &Layout
     ensures { result.now ≡ job.now.shape }
 {
     &job.layout

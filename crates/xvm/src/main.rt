@@ -6,6 +6,8 @@ use std::process::ExitCode;
 use std::{env, io};
 use xv_base::Status;
 use xv_io::{StdSink, StdSource};
+use xv_run::top_run;
+use xv_shared::FreeGate;
 use xv_top::{Left, top};
 
 fn main(rt: HostRuntime) -> ExitCode {
@@ -18,7 +20,13 @@ fn run(rt: &HostRuntime) -> Option<Status> {
     let mut input = StdSource::new(rt.reader());
     let mut output = StdSink::new(BufWriter::new(rt.alloc(), io::writer(rt)).ok()?);
     let mut left = Left::Nothing;
-    Some(top(rt.alloc(), &words, &mut input, &mut output, &mut left))
+    let alloc = rt.alloc();
+    Some(match words.as_slice() {
+        [word, ..] if word.as_str() == "run" => {
+            top_run(rt, alloc, &words, &mut input, &mut output, &FreeGate, &mut left)
+        }
+        _ => top(alloc, &words, &mut input, &mut output, &mut left),
+    })
 }
 
 /// The words behind the program's name. A word that is no text makes a command line that no command has: it is
