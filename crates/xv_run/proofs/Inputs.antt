@@ -54,7 +54,9 @@ end-behind false n m rest at none = absurd (cc)
 why-behind : (why : Option LineWhy) (n m k : ℕ) (l : List (List ℕ)) (ls : List (List (List ℕ))) (rest : Bool) (a b : Option LineFault) → m ≡ n + one_more_unless why k → at_line_or n why a ≡ None
     → (a ≡ None → m ≡ (n + 1) + k → b ≡ order_at m (drop k ls) rest) → at_line_or n why b ≡ order_at m (drop (one_more_unless why k) (l ∷ ls)) rest
 why-behind (Some why) n m k l ls rest a b at none f = absurd (cc)
-why-behind None n m k l ls rest a b at none f = f none (omega (arith, at))
+why-behind None n m k l ls rest a b at none f =
+    let one : k + 1 ≡ suc k = omega arith in
+    f none (omega (arith, at)) ∙ ap (λ (j : ℕ). order_at m (drop j (l ∷ ls)) rest) (sym one)
 
 line-behind : (e : Bool) (n m c : ℕ) (l : List (List ℕ)) (ls : List (List (List ℕ))) (rest : Bool) (a b : Option LineFault) → m ≡ n + (if e then 0 else c) → (if e then None else a) ≡ None
     → (a ≡ None → m ≡ n + c → b ≡ order_at m (drop c (l ∷ ls)) rest) → (if e then Some (at_line n Order) else b) ≡ order_at m (drop (if e then 0 else c) (l ∷ ls)) rest
@@ -77,12 +79,13 @@ grow : (n b : ℕ) (items : List (List ℕ)) (rest : Bool) → order_at n (map f
 grow n b [] rest is = absurd (cc)
 grow n b (item ∷ items) rest is = refl
 
+one-some : (n b : ℕ) (text : List ℕ) (rest feed : Bool) → (b == 10) ≡ feed → (feed || list_any (λ b. b == 10) text) ≡ true → (list_any (λ b. b == 10) text ≡ true → order_at n (lines_of text) false ≡ Some (at_line n Order)) → order_at n (lines_of (b ∷ text)) rest ≡ Some (at_line n Order)
+one-some n b text rest true is any behind = rw is refl
+one-some n b text rest false is any behind = rw is (grow n b (whole_lines text) rest (behind any))
+
 lines-some : (n : ℕ) (text : List ℕ) (rest : Bool) → list_any (λ b. b == 10) text ≡ true → order_at n (lines_of text) rest ≡ Some (at_line n Order)
-one-some : (n b : ℕ) (text : List ℕ) (rest feed : Bool) → (b == 10) ≡ feed → (feed || list_any (λ b. b == 10) text) ≡ true → order_at n (lines_of (b ∷ text)) rest ≡ Some (at_line n Order)
-one-some n b text rest true is any = rw is refl
-one-some n b text rest false is any = rw is (grow n b (whole_lines text) rest (lines-some n text false any))
 lines-some n [] rest any = absurd (cc)
-lines-some n (b ∷ text) rest any = one-some n b text rest (b == 10) refl any
+lines-some n (b ∷ text) rest any = one-some n b text rest (b == 10) refl any (lines-some n text false)
 
 some-by : (n b : ℕ) (text : List ℕ) (any : Bool) → list_any (λ b. b == 10) (b ∷ text) ≡ any → order_at n (lines_of (b ∷ text)) (if any then has_rest text else true) ≡ Some (at_line n Order)
 some-by n b text true is = lines-some n (b ∷ text) (has_rest text) is
@@ -125,8 +128,8 @@ behind-some bytes [] w line within none good is at some = absurd (let less : 0 <
 behind-some bytes (b ∷ text) w line within none good is at some = behind-job bytes (b ∷ text) w line within none good is at ∙ bytes-behind line b text
 
 behind-none : (bytes behind : List ℕ) (w : Written) (line : ℕ) → length bytes ≤ input_limit → text_fault bytes ≡ None → IsGoodWritten w → bytes ≡ job_text w ++ behind → line ≡ length (job_lines w) + 1 → length behind ≡ 0 → IsJob bytes w
-behind-none bytes (b ∷ text) w line within none good is at no = absurd (let more : suc (length text) ≡ 0 = no in omega (arith, more))
-behind-none bytes [] w line within none good is at no = record {
+behind-none bytes (b ∷ text) w line within none good is at few = absurd (let more : suc (length text) ≡ 0 = few in omega (arith, more))
+behind-none bytes [] w line within none good is at few = record {
   no_fault = behind-job bytes [] w line within none good is at;
   good = good;
   text = is ∙ append-nil (job_text w);
