@@ -21,6 +21,7 @@ use Rattle.xv_core.proofs.Stepped.Origins.{origin-same}
 use Rattle.xv_parts.specs.Memory.{IsInMemory, begun_in_memory}
 use Rattle.xv_parts.proofs.Planned.{faithful}
 use Rattle.xv_parts.proofs.Holding.{source-writes, dest-writes}
+use Rattle.xv_top.proofs.Agreeing.{dest-guests}
 use Rattle.xv_run.specs.Run.{HasRunOut, HasEnded, phase_asked}
 
 switched-is : (p : Phase) → is_switched p ≡ true → p ≡ Switched
@@ -59,6 +60,7 @@ has-ended w m finish out = record {
   within = out.within;
   asked = subst (λ (x : Written). x.faults ≡ [] → (view_of m).phase ≡ phase_asked (job_of x)) out.of_job (as-asked m out.in_memory out.finished);
   counts = record { source = λ unit there. source-writes m out.in_memory unit; dest = λ unit there. dest-writes m out.in_memory unit };
+  hands_over = λ over. record { switched = over; holds = dest-guests m out.in_memory (ap is_switched over) };
 }
 
 -- a migration that comes from one that began in memory, and is finished

@@ -1,6 +1,6 @@
 -- What `run` reads, writes and leaves: a job that threads ran, to whatever end.
 use Rattle.std.specs.Prelude.{◌≡◌, ◌≤◌, ◌⊎◌, ℕ, true, List, [], ◌++◌, length, Option, Some, IfSome, if◌then◌else◌}
-use Rattle.xv_io.specs.Io.{TookMore}
+use Rattle.xv_io.specs.Io.{TookMore, TookFront}
 use Rattle.xv_base.specs.declared.event.Phase.{Phase}
 use Rattle.xv_base.specs.declared.event.Phase.TheVariants.{Switched, Cancelled, Failed as FailedPhase}
 use Rattle.xv_base.specs.declared.status.Status.{Status}
@@ -20,6 +20,7 @@ use Rattle.xv_core.specs.Keeping.{IsKept}
 use Rattle.xv_parts.specs.Memory.{IsInMemory}
 use Rattle.xv_top.specs.Replay.{image_of}
 use Rattle.xv_top.specs.Top.{CountsWrites}
+use Rattle.xv_top.specs.Driven.{HasHandedOver}
 use Rattle.xv_top.specs.Outcome.{Outcome, ReadsAll, ReadsQuietly, WritesAll, WritesFront, WritesQuietly}
 use Rattle.xv_top.specs.declared.command.Form.{Form}
 use Rattle.xv_top.specs.declared.command.Form.TheVariants.{Rows, Json}
@@ -57,7 +58,8 @@ pub record HasRunOut (written : Written) (m : Seen) (finish : ℕ) : Type 0 wher
   pub within : finish ≤ length m.journal
 
 -- The job ran to its end, and this is what was left: a run of it, in which exactly those calls failed that its faults name; the last
--- entries, so many, were made after the workers. Without planned faults it ends as was asked.
+-- entries, so many, were made after the workers. Without planned faults it ends as was asked. Where it has switched over, the
+-- destination holds what the unmigrated guest leaves.
 pub record HasEnded (written : Written) (m : Seen) (finish : ℕ) : Type 0 where
   pub of_job : m.job ≡ written
   pub kept : IsKept m
@@ -66,6 +68,7 @@ pub record HasEnded (written : Written) (m : Seen) (finish : ℕ) : Type 0 where
   pub within : finish ≤ length m.journal
   pub asked : written.faults ≡ [] → (view_of m).phase ≡ phase_asked (job_of written)
   pub counts : CountsWrites m
+  pub hands_over : (view_of m).phase ≡ Switched → HasHandedOver m
 
 -- a status says the phase in which a run ended
 abbrev pub EndsAs : Phase → Status → Type 0
@@ -103,3 +106,26 @@ pub record IsRunShort (form : Form) (o : Outcome) : Type 0 where
   pub output : TookMore o.output.before o.output.after (journal_text (job_of written) migration.journal)
   pub quiet_input : ReadsQuietly o.input
   pub quiet_output : WritesQuietly o.output
+
+-- ---- for private clauses: a run of a job, by what an output took of it
+
+-- all that is written of it was taken
+pub record IsRunTaken (form : Form) (written : Written) (old new : Option (List ℕ)) (m : Seen) : Type 0 where
+  pub finish : ℕ
+  pub ended : HasEnded written m finish
+  pub taken : TookMore old new (run_text form (job_of written) m.journal finish)
+
+-- a front of that was taken
+pub record IsRunBegun (form : Form) (written : Written) (old new : Option (List ℕ)) : Type 0 where
+  pub migration : Seen
+  pub finish : ℕ
+  pub ended : HasEnded written migration finish
+  pub taken : TookFront old new (run_text form (job_of written) migration.journal finish)
+
+-- the lines of its journal were taken, for want of memory for the line of JSON nothing behind them
+pub record IsRunListed (form : Form) (written : Written) (old new : Option (List ℕ)) : Type 0 where
+  pub json : form ≡ Json
+  pub migration : Seen
+  pub finish : ℕ
+  pub ended : HasEnded written migration finish
+  pub taken : TookMore old new (journal_text (job_of written) migration.journal)

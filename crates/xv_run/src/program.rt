@@ -1,17 +1,19 @@
 //! The top call of the command.
 
-ghost use Rattle.std.specs.Prelude.{◌≡◌, ◌⊎◌, true, map, string_bytes};
+ghost use Rattle.std.specs.Prelude.{◌≡◌, ◌⊎◌, true, false, map, IfOk, OnOk, IsErrOf, string_bytes};
+ghost use Rattle.xv_base.specs.Calls.{CountRose};
 ghost use Rattle.xv_job.specs.Written.{job_of};
 ghost use Rattle.xv_model.specs.Work.{is_finished};
 ghost use Rattle.xv_core.specs.Seen.{Seen, view_of};
 ghost use Rattle.xv_core.specs.Losing.{LosesNothing};
+ghost use Rattle.xv_parts.specs.Memory.{IsInMemory};
 ghost use Rattle.xv_top.specs.Printed.{IsZeroElsewhere};
 ghost use Rattle.xv_top.specs.Outcome.{input_over, output_over, outcome};
 ghost use Rattle.xv_top.specs.Promises.{WordsPromise};
 ghost use Rattle.xv_top.specs.declared.command.Form.{Form as FormName};
 ghost use Rattle.xv_top.specs.declared.program.Left.TheVariants.{First};
 ghost use Rattle.xv_run.specs.Words.{run_words, IsRunWords, IsNoRun};
-ghost use Rattle.xv_run.specs.Run.{EndsAs};
+ghost use Rattle.xv_run.specs.Run.{EndsAs, IsRunTaken, IsRunBegun, IsRunListed};
 ghost use Rattle.xv_run.specs.Promise.{RunPromise, PrintsRun};
 
 use crate::input::read_input;
@@ -23,6 +25,7 @@ use std::sync::Wait;
 use std::thread::Threads;
 use xv_base::{Phase, Status};
 use xv_io::{Sink, Source};
+use xv_job::Job;
 use xv_parts::Machine;
 use xv_report::JsonFault;
 use xv_shared::Gate;
@@ -88,18 +91,44 @@ fn run<I: Source, O: Sink, G: Gate, X: Threads + Wait + Sync>(
         Err(InputError::NoMemory) => return Status::NoMemory,
         Err(InputError::Refused(fault)) => return refuse_input(fault, output),
     };
-    let (machine, counts) = match run_job(rt, alloc, job, gate) {
-        Ok((machine, counts)) => (machine, counts),
-        Err(_) => return Status::NoMemory,
-    };
-    match write_run(alloc, form, &machine, &counts, output) {
-        Ok(()) => {
+    match run_out(rt, alloc, form, job, output, gate) {
+        Ok(machine) => {
             let status = status_of(&machine);
             *left = Left::First(machine);
             status
         }
         Err(JsonFault::WriteFault) => Status::WriteFault,
         Err(JsonFault::NoMemory) => Status::NoMemory,
+    }
+}
+
+/// Runs a job, and writes the journal, the report in a form and the image; answers with the migration that ran.
+///
+/// Errors: `WriteFault` where the output failed, `NoMemory` for want of memory, where nothing was written, or with JSON the
+/// journal's lines and nothing behind them.
+fn run_out<O: Sink, G: Gate, X: Threads + Wait + Sync>(
+    rt: &X,
+    alloc: Global,
+    form: Form,
+    job: Job,
+    output: &mut O,
+    gate: &G,
+) -> Result<Machine, JsonFault>
+    ensures taken { IfOk result (λ m. IsRunTaken form job (O.taken output.old) (O.taken output.new) m) }
+    ensures in_memory { IfOk result (λ m. IsInMemory m) }
+    ensures flushed { OnOk result (O.keeps_back output.new ≡ false) }
+    ensures cut { IsErrOf result JsonFault.WriteFault → IsRunBegun form job (O.taken output.old) (O.taken output.new) }
+    ensures memory { IsErrOf result JsonFault.NoMemory → (O.taken output.new ≡ O.taken output.old) ⊎ IsRunListed form job (O.taken output.old) (O.taken output.new) }
+    ensures fault { IsErrOf result JsonFault.WriteFault → CountRose (O.faults output.old) (O.faults output.new) }
+    ensures quiet { ¬ IsErrOf result JsonFault.WriteFault → O.faults output.new ≡ O.faults output.old }
+{
+    let (machine, counts) = match run_job(rt, alloc, job, gate) {
+        Ok(ran) => ran,
+        Err(_) => return Err(JsonFault::NoMemory),
+    };
+    match write_run(alloc, form, &machine, &counts, output) {
+        Ok(()) => Ok(machine),
+        Err(error) => Err(error),
     }
 }
 
