@@ -38,8 +38,8 @@ cancelled-is Cancelled is = refl
 cancelled-is Failed is = absurd (cc)
 
 asked-by : (b : Bool) (p : Phase) → (b ≡ false → is_switched p ≡ true) → (b ≡ true → is_cancelled p ≡ true) → p ≡ (if b then Cancelled else Switched)
-asked-by true p no yes = cancelled-is p (yes refl)
-asked-by false p no yes = switched-is p (no refl)
+asked-by true p off on = cancelled-is p (on refl)
+asked-by false p off on = switched-is p (off refl)
 
 as-asked : (m : Seen) → IsInMemory m → is_finished (job_of m.job) (view_of m) ≡ true → m.job.faults ≡ [] → (view_of m).phase ≡ phase_asked (job_of m.job)
 as-asked m inside done no_faults =

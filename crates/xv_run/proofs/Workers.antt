@@ -35,7 +35,6 @@ of-kind make apart a (suc n) rest fine distinct = (later make apart a (a + 1) n 
 differ : (m n : ℕ) → m < n → (m == n) ≡ false
 differ m n lt = grind (arith, lt)
 
-
 pub workers-distinct : (job : Job) → IsDistinct is_worker (workers job)
 unfolding IsDistinct
 workers-distinct job =
@@ -47,10 +46,10 @@ workers-distinct job =
     let to_senders : List Job1 = map Sender (range_with_len 0 streams) ++ to_receivers in
     let to_pager : List Job1 = Pager ∷ to_senders in
     let to_copiers : List Job1 = map Copier (range_with_len 0 disks) ++ to_pager in
-    let receivers = of-kind Receiver (λ m n lt. differ m n lt) 0 streams to_applier (λ k. (refl, tt)) (tt, tt) in
-    let senders = of-kind Sender (λ m n lt. differ m n lt) 0 streams to_receivers (λ k. others (Sender k) Receiver (λ n. refl) 0 streams to_applier (refl, tt)) receivers in
-    let pager = (others Pager Sender (λ n. refl) 0 streams to_receivers (others Pager Receiver (λ n. refl) 0 streams to_applier (refl, tt)), senders) in
-    let copiers = of-kind Copier (λ m n lt. differ m n lt) 0 disks to_pager (λ k. (refl, others (Copier k) Sender (λ n. refl) 0 streams to_receivers (others (Copier k) Receiver (λ n. refl) 0 streams to_applier (refl, tt)))) pager in
+    let receivers : IsDistinct is_worker to_receivers = of-kind Receiver (λ m n lt. differ m n lt) 0 streams to_applier (λ k. (refl, tt)) (tt, tt) in
+    let senders : IsDistinct is_worker to_senders = of-kind Sender (λ m n lt. differ m n lt) 0 streams to_receivers (λ k. others (Sender k) Receiver (λ n. refl) 0 streams to_applier (refl, tt)) receivers in
+    let pager : IsDistinct is_worker to_pager = (others Pager Sender (λ n. refl) 0 streams to_receivers (others Pager Receiver (λ n. refl) 0 streams to_applier (refl, tt)), senders) in
+    let copiers : IsDistinct is_worker to_copiers = of-kind Copier (λ m n lt. differ m n lt) 0 disks to_pager (λ k. (refl, others (Copier k) Sender (λ n. refl) 0 streams to_receivers (others (Copier k) Receiver (λ n. refl) 0 streams to_applier (refl, tt)))) pager in
     of-kind Guest (λ m n lt. differ m n lt) 0 guests to_copiers (λ k. others (Guest k) Copier (λ n. refl) 0 disks to_pager (refl, others (Guest k) Sender (λ n. refl) 0 streams to_receivers (others (Guest k) Receiver (λ n. refl) 0 streams to_applier (refl, tt)))) copiers
 
 -- so are their counts

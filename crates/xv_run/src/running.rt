@@ -8,7 +8,7 @@ ghost use Rattle.xv_core.specs.Seen.{view_of};
 ghost use Rattle.xv_parts.specs.Memory.{IsInMemory, begun_in_memory};
 ghost use Rattle.xv_shared.specs.FirstCrew.{other_count};
 ghost use Rattle.xv_run.specs.Run.{HasRunOut, HasEnded};
-ghost use Rattle.xv_run.specs.Numbers.{tally};
+ghost use Rattle.xv_run.specs.Numbers.{tally, MadeAll};
 ghost use Rattle.xv_report.specs.Workers.{AreDistinct};
 
 use crate::numbers::count_workers;
@@ -36,6 +36,7 @@ pub fn run_job<G: Gate, X: Threads + Wait + Sync>(
     ensures ended { IfOk result (λ ran. HasEnded job ran.0 ran.1.finish) }
     ensures in_memory { IfOk result (λ ran. IsInMemory ran.0) }
     ensures counted { IfOk result (λ ran. ran.1 ≡ tally (job_of ran.0.job) ran.0.journal ran.1.finish) }
+    ensures all_made { IfOk result (λ ran. MadeAll ran.1 ran.0.journal) }
     ensures distinct { IfOk result (λ ran. AreDistinct ran.1.workers) }
 {
     let machine = begin(alloc, job)?;

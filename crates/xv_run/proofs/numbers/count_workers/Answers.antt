@@ -4,7 +4,7 @@ use Rattle.xv_run.proofs.Workers.{tally-is, counts-distinct}
 use Rattle.xv_run.proofs.numbers.count_workers.Goals as goal
 
 pub returns-clause-counted : goal.returns-clause-counted
-returns-clause-counted c = tally-is _ _ _ _ _ _ c.made_before.ensures (c.deref.ensures.value ∙ c.in_ok-workers.ensures) c.in_ok-count_each.ensures
+returns-clause-counted c = tally-is _ _ _ _ _ _ c.made_before.ensures (c.deref.ensures.value ∙ c.in_ok-list.ensures) c.in_ok-workers.ensures
 
 pub returns-clause-distinct : goal.returns-clause-distinct
-returns-clause-distinct c = counts-distinct _ _ _ (c.in_ok-count_each.ensures ∙ ap (map (counted _)) (c.deref.ensures.value ∙ c.in_ok-workers.ensures))
+returns-clause-distinct c = counts-distinct _ _ _ (c.in_ok-workers.ensures ∙ ap (map (counted _)) (c.deref.ensures.value ∙ c.in_ok-list.ensures))
