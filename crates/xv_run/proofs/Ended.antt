@@ -4,7 +4,7 @@ use Rattle.std.specs.Prelude.{◌+◌, ◌≤◌, ◌⊎◌, is_some, Option, So
 use Rattle.std.proofs.Common.{inl, inr, arith}
 use Rattle.xv_base.specs.declared.event.Phase.{Phase}
 use Rattle.xv_base.specs.declared.event.Phase.TheVariants.{Running, Stunned, Switched, Cancelled, Failed}
-use Rattle.xv_base.specs.declared.status.Status.{Status}
+use Rattle.xv_base.specs.declared.answer.Entry.{Entry}
 use Rattle.xv_model.specs.Job.{Job}
 use Rattle.xv_model.specs.View.{is_switched, is_live}
 use Rattle.xv_model.specs.Wait.{has_cancel}
@@ -21,7 +21,10 @@ use Rattle.xv_core.proofs.Stepped.Origins.{origin-same}
 use Rattle.xv_parts.specs.Memory.{IsInMemory, begun_in_memory}
 use Rattle.xv_parts.proofs.Planned.{faithful}
 use Rattle.xv_parts.proofs.Holding.{source-writes, dest-writes}
+use Rattle.xv_report.specs.Workers.{Tally}
 use Rattle.xv_run.specs.Run.{HasRunOut, HasEnded, phase_asked}
+use Rattle.xv_run.specs.Numbers.{tally, MadeAll}
+use Rattle.xv_run.proofs.Sums.{made-all}
 
 switched-is : (p : Phase) → is_switched p ≡ true → p ≡ Switched
 switched-is Running is = absurd (cc)
@@ -74,3 +77,16 @@ has-run_out start closed m finish begun came same origin kept done grew =
       within = omega (arith, grew);
     }
 
+-- the same with the numbers of its workers, which make up the journal
+pub tally-told : (m : Seen) (w : Written) (journal : List Entry) (finish : ℕ) (counts : Tally) → w ≡ m.job → journal ≡ m.journal → counts ≡ tally (job_of w) journal finish → counts ≡ tally (job_of m.job) m.journal finish
+tally-told m w journal finish counts of_job told counted =
+    counted ∙ ap (λ (x : Written). tally (job_of x) journal finish) of_job ∙ ap (λ (es : List Entry). tally (job_of m.job) es finish) told
+
+pub ended-of : (w : Written) (start m : Seen) (finish : ℕ) (counts : Tally) → start ≡ begun_in_memory w → HasRunOut start.job m finish → counts ≡ tally (job_of m.job) m.journal finish → HasEnded w m counts.finish
+ended-of w start m finish counts begun out counted =
+    subst (λ (n : ℕ). HasEnded w m n) (sym (ap (λ (t : Tally). t.finish) counted))
+    (has-ended w m finish (subst (λ (x : Written). HasRunOut x m finish) (ap (λ (s : Seen). s.job) begun) out))
+
+pub all-of : (w : Written) (m : Seen) (finish : ℕ) (counts : Tally) → HasRunOut w m finish → counts ≡ tally (job_of m.job) m.journal finish → MadeAll counts m.journal
+all-of w m finish counts out counted =
+    subst (λ (t : Tally). MadeAll t m.journal) (sym counted) (made-all m finish out.in_memory.kept out.within)

@@ -27,6 +27,9 @@ hits x ws = count_by (λ w. is_worker w x) ws
 hits-cons : (x w : Job1) (ws : List Job1) (b : Bool) → is_worker w x ≡ b → hits x (w ∷ ws) ≡ (if b then 1 else 0) + hits x ws
 hits-cons x w ws b is = sum_by-cons (λ (v : Job1). if is_worker v x then 1 else 0) w ws ∙ ap (λ (c : Bool). (if c then 1 else 0) + hits x ws) is
 
+skip : (x w : Job1) (ws : List Job1) → is_worker w x ≡ false → hits x (w ∷ ws) ≡ hits x ws
+skip x w ws other = omega (arith, hits-cons x w ws false other)
+
 -- of another kind
 none-of : (x : Job1) (make : ℕ → Job1) (rest : List Job1) → ((n : ℕ) → is_worker (make n) x ≡ false) → (a n : ℕ) → hits x (map make (range_with_len a n) ++ rest) ≡ hits x rest
 none-of x make rest apart a zero = refl
@@ -74,7 +77,7 @@ module _ (job : Job) where
       let x = Guest g in
       let receivers = none-of x Receiver to_applier (λ n. refl) 0 streams in
       let senders = none-of x Sender to_receivers (λ n. refl) 0 streams in
-      let pager = hits-cons x Pager to_senders false refl in
+      let pager = skip x Pager to_senders refl in
       let copiers = none-of x Copier to_pager (λ n. refl) 0 disks in
       once Guest g to_copiers (λ n. refl) (omega (arith, copiers, pager, senders, receivers)) 0 (guest_count job) (omega arith) (omega arith)
 
@@ -83,7 +86,7 @@ module _ (job : Job) where
       let x = Copier d in
       let receivers = none-of x Receiver to_applier (λ n. refl) 0 streams in
       let senders = none-of x Sender to_receivers (λ n. refl) 0 streams in
-      let pager = hits-cons x Pager to_senders false refl in
+      let pager = skip x Pager to_senders refl in
       none-of x Guest to_copiers (λ n. refl) 0 (guest_count job)
       ∙ once Copier d to_pager (λ n. refl) (omega (arith, pager, senders, receivers)) 0 disks (omega arith) (omega arith)
 
@@ -101,7 +104,7 @@ module _ (job : Job) where
       let receivers = none-of x Receiver to_applier (λ n. refl) 0 streams in
       none-of x Guest to_copiers (λ n. refl) 0 (guest_count job)
       ∙ none-of x Copier to_pager (λ n. refl) 0 disks
-      ∙ hits-cons x Pager to_senders false refl
+      ∙ skip x Pager to_senders refl
       ∙ once Sender s to_receivers (λ n. refl) receivers 0 streams (omega arith) (omega arith)
 
   receiver-once : (s : ℕ) → s < streams → hits (Receiver s) (workers job) ≡ 1
@@ -109,7 +112,7 @@ module _ (job : Job) where
       let x = Receiver s in
       none-of x Guest to_copiers (λ n. refl) 0 (guest_count job)
       ∙ none-of x Copier to_pager (λ n. refl) 0 disks
-      ∙ hits-cons x Pager to_senders false refl
+      ∙ skip x Pager to_senders refl
       ∙ none-of x Sender to_receivers (λ n. refl) 0 streams
       ∙ once Receiver s to_applier (λ n. refl) refl 0 streams (omega arith) (omega arith)
 
@@ -117,7 +120,7 @@ module _ (job : Job) where
   applier-once =
       none-of Applier Guest to_copiers (λ n. refl) 0 (guest_count job)
       ∙ none-of Applier Copier to_pager (λ n. refl) 0 disks
-      ∙ hits-cons Applier Pager to_senders false refl
+      ∙ skip Applier Pager to_senders refl
       ∙ none-of Applier Sender to_receivers (λ n. refl) 0 streams
       ∙ none-of Applier Receiver to_applier (λ n. refl) 0 streams
 
