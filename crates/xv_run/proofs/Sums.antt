@@ -1,10 +1,10 @@
 -- The workers and the driver made all entries of a journal, each one of them.
-use Rattle.std.specs.Prelude.{◌≡◌, ◌≤◌, ◌<◌, ℕ, zero, suc, ◌+◌, ◌-◌, ◌==◌, Bool, true, false, List, [], ◌∷◌, ◌++◌, length, map, take, drop, sum_by, count_by, if◌then◌else◌}
+use Rattle.std.specs.Prelude.{◌≡◌, ◌≤◌, ◌<◌, ℕ, zero, suc, ◌+◌, ◌-◌, ◌==◌, Bool, true, false, List, [], ◌∷◌, ◌++◌, length, map, take, sum_by, count_by, if◌then◌else◌}
 use Rattle.std.specs.List.{range_with_len, list_all}
-use Rattle.std.proofs.Common.{refl, ap, sym, ◌∙◌, arith, inl, inr}
+use Rattle.std.proofs.Common.{refl, ap, ◌∙◌, arith, inl, inr}
 use Rattle.std.proofs.lemmas.Bool.{and_parts, cases_eq, eq-eqb, ne_eqb, ltb-true}
 use Rattle.std.proofs.lemmas.List.{length-take}
-use Rattle.std.proofs.lemmas.List.Sums.{sum_by-cons, sum_by-take-le, AllPass-from_list_all, list_all-from_AllPass}
+use Rattle.std.proofs.lemmas.List.Sums.{sum_by-cons, AllPass-from_list_all, list_all-from_AllPass}
 use Rattle.std.proofs.lemmas.List.Elements.{All-take}
 use Rattle.xv_base.specs.declared.event.Event.{Event}
 use Rattle.xv_base.specs.declared.event.Event.TheVariants.{Guest as GuestEvent, Begin, Read, Advance, Release, Round, Page, Send, Deliver, Apply, Ack, Credit, Stun, Switch, Cancel}
@@ -18,7 +18,8 @@ use Rattle.xv_report.specs.declared.counts.Count.{Count}
 use Rattle.xv_report.specs.declared.counts.Job1.{Job1}
 use Rattle.xv_report.specs.declared.counts.Job1.TheVariants.{Guest, Copier, Pager, Sender, Receiver, Applier}
 use Rattle.xv_report.specs.Workers.{is_worker}
-use Rattle.xv_run.specs.Numbers.{worker_of, steps_of, counted, workers, tally, MadeAll}
+use Rattle.xv_run.specs.Numbers.{worker_of, counted, workers, tally, MadeAll}
+use Rattle.xv_run.proofs.Workers.{to_applier, to_receivers, to_senders, to_pager, to_copiers}
 
 -- how many of these workers are this one
 abbrev hits : Job1 → List Job1 → ℕ
@@ -57,71 +58,56 @@ module _ (job : Job) where
   abbrev streams : ℕ
   streams = job.config.streams
 
-  abbrev to_applier : List Job1
-  to_applier = Applier ∷ []
-
-  abbrev to_receivers : List Job1
-  to_receivers = map Receiver (range_with_len 0 streams) ++ to_applier
-
-  abbrev to_senders : List Job1
-  to_senders = map Sender (range_with_len 0 streams) ++ to_receivers
-
-  abbrev to_pager : List Job1
-  to_pager = Pager ∷ to_senders
-
-  abbrev to_copiers : List Job1
-  to_copiers = map Copier (range_with_len 0 disks) ++ to_pager
-
   guest-once : (g : ℕ) → g < guest_count job → hits (Guest g) (workers job) ≡ 1
   guest-once g there =
       let x = Guest g in
       let receivers = none-of x Receiver to_applier (λ n. refl) 0 streams in
-      let senders = none-of x Sender to_receivers (λ n. refl) 0 streams in
-      let pager = skip x Pager to_senders refl in
-      let copiers = none-of x Copier to_pager (λ n. refl) 0 disks in
-      once Guest g to_copiers (λ n. refl) (omega (arith, copiers, pager, senders, receivers)) 0 (guest_count job) (omega arith) (omega arith)
+      let senders = none-of x Sender (to_receivers job) (λ n. refl) 0 streams in
+      let pager = skip x Pager (to_senders job) refl in
+      let copiers = none-of x Copier (to_pager job) (λ n. refl) 0 disks in
+      once Guest g (to_copiers job) (λ n. refl) (omega (arith, copiers, pager, senders, receivers)) 0 (guest_count job) (omega arith) (omega arith)
 
   copier-once : (d : ℕ) → d < disks → hits (Copier d) (workers job) ≡ 1
   copier-once d there =
       let x = Copier d in
       let receivers = none-of x Receiver to_applier (λ n. refl) 0 streams in
-      let senders = none-of x Sender to_receivers (λ n. refl) 0 streams in
-      let pager = skip x Pager to_senders refl in
-      none-of x Guest to_copiers (λ n. refl) 0 (guest_count job)
-      ∙ once Copier d to_pager (λ n. refl) (omega (arith, pager, senders, receivers)) 0 disks (omega arith) (omega arith)
+      let senders = none-of x Sender (to_receivers job) (λ n. refl) 0 streams in
+      let pager = skip x Pager (to_senders job) refl in
+      none-of x Guest (to_copiers job) (λ n. refl) 0 (guest_count job)
+      ∙ once Copier d (to_pager job) (λ n. refl) (omega (arith, pager, senders, receivers)) 0 disks (omega arith) (omega arith)
 
   pager-once : hits Pager (workers job) ≡ 1
   pager-once =
       let receivers = none-of Pager Receiver to_applier (λ n. refl) 0 streams in
-      let senders = none-of Pager Sender to_receivers (λ n. refl) 0 streams in
-      none-of Pager Guest to_copiers (λ n. refl) 0 (guest_count job)
-      ∙ none-of Pager Copier to_pager (λ n. refl) 0 disks
-      ∙ omega (arith, hits-cons Pager Pager to_senders true refl, senders, receivers)
+      let senders = none-of Pager Sender (to_receivers job) (λ n. refl) 0 streams in
+      none-of Pager Guest (to_copiers job) (λ n. refl) 0 (guest_count job)
+      ∙ none-of Pager Copier (to_pager job) (λ n. refl) 0 disks
+      ∙ omega (arith, hits-cons Pager Pager (to_senders job) true refl, senders, receivers)
 
   sender-once : (s : ℕ) → s < streams → hits (Sender s) (workers job) ≡ 1
   sender-once s there =
       let x = Sender s in
       let receivers = none-of x Receiver to_applier (λ n. refl) 0 streams in
-      none-of x Guest to_copiers (λ n. refl) 0 (guest_count job)
-      ∙ none-of x Copier to_pager (λ n. refl) 0 disks
-      ∙ skip x Pager to_senders refl
-      ∙ once Sender s to_receivers (λ n. refl) receivers 0 streams (omega arith) (omega arith)
+      none-of x Guest (to_copiers job) (λ n. refl) 0 (guest_count job)
+      ∙ none-of x Copier (to_pager job) (λ n. refl) 0 disks
+      ∙ skip x Pager (to_senders job) refl
+      ∙ once Sender s (to_receivers job) (λ n. refl) receivers 0 streams (omega arith) (omega arith)
 
   receiver-once : (s : ℕ) → s < streams → hits (Receiver s) (workers job) ≡ 1
   receiver-once s there =
       let x = Receiver s in
-      none-of x Guest to_copiers (λ n. refl) 0 (guest_count job)
-      ∙ none-of x Copier to_pager (λ n. refl) 0 disks
-      ∙ skip x Pager to_senders refl
-      ∙ none-of x Sender to_receivers (λ n. refl) 0 streams
+      none-of x Guest (to_copiers job) (λ n. refl) 0 (guest_count job)
+      ∙ none-of x Copier (to_pager job) (λ n. refl) 0 disks
+      ∙ skip x Pager (to_senders job) refl
+      ∙ none-of x Sender (to_receivers job) (λ n. refl) 0 streams
       ∙ once Receiver s to_applier (λ n. refl) refl 0 streams (omega arith) (omega arith)
 
   applier-once : hits Applier (workers job) ≡ 1
   applier-once =
-      none-of Applier Guest to_copiers (λ n. refl) 0 (guest_count job)
-      ∙ none-of Applier Copier to_pager (λ n. refl) 0 disks
-      ∙ skip Applier Pager to_senders refl
-      ∙ none-of Applier Sender to_receivers (λ n. refl) 0 streams
+      none-of Applier Guest (to_copiers job) (λ n. refl) 0 (guest_count job)
+      ∙ none-of Applier Copier (to_pager job) (λ n. refl) 0 disks
+      ∙ skip Applier Pager (to_senders job) refl
+      ∙ none-of Applier Sender (to_receivers job) (λ n. refl) 0 streams
       ∙ none-of Applier Receiver to_applier (λ n. refl) 0 streams
 
   event-once : (e : Event) → fits job e ≡ true → hits (worker_of e) (workers job) ≡ 1
@@ -153,12 +139,14 @@ total-none (w ∷ ws) = omega (arith, sum_by-cons (λ (c : Count). c.steps) (cou
 total-cons : (e : Entry) (es : List Entry) (ws : List Job1) → total (e ∷ es) ws ≡ hits (worker_of e.event) ws + total es ws
 total-cons e es [] = refl
 total-cons e es (w ∷ ws) =
-    omega (arith,
-    sum_by-cons (λ (c : Count). c.steps) (counted (e ∷ es) w) (map (counted (e ∷ es)) ws),
-    sum_by-cons (λ (c : Count). c.steps) (counted es w) (map (counted es) ws),
-    sum_by-cons (λ (x : Entry). if is_worker w (worker_of x.event) then 1 else 0) e es,
-    hits-cons (worker_of e.event) w ws (is_worker w (worker_of e.event)) refl,
-    total-cons e es ws)
+    omega (
+      arith,
+      sum_by-cons (λ (c : Count). c.steps) (counted (e ∷ es) w) (map (counted (e ∷ es)) ws),
+      sum_by-cons (λ (c : Count). c.steps) (counted es w) (map (counted es) ws),
+      sum_by-cons (λ (x : Entry). if is_worker w (worker_of x.event) then 1 else 0) e es,
+      hits-cons (worker_of e.event) w ws (is_worker w (worker_of e.event)) refl,
+      total-cons e es ws,
+    )
 
 all-counted : (job : Job) (journal : List Entry) → list_all (λ (e : Entry). fits job e.event) journal ≡ true → total journal (workers job) ≡ length journal
 all-counted job [] fitting = total-none (workers job)
@@ -173,6 +161,7 @@ front-fits job journal n fitting =
 
 -- The same of a kept migration.
 pub made-all : (m : Seen) (finish : ℕ) → IsKept m → finish ≤ length m.journal → MadeAll (tally (job_of m.job) m.journal finish) m.journal
+unfolding MadeAll
 made-all m finish kept within =
     let front = take (length m.journal - finish) m.journal in
     omega (arith, all-counted (job_of m.job) front (front-fits (job_of m.job) m.journal (length m.journal - finish) kept.fitting), length-take (length m.journal - finish) m.journal)

@@ -49,6 +49,6 @@ workers job =
 abbrev pub tally : Job → List Entry → ℕ → Tally
 tally job journal finish = record { workers = map (counted (take (length journal - finish) journal)) (workers job); finish = finish }
 
--- each entry is one worker's, or was made after them: their numbers make up the journal
-abbrev pub MadeAll : Tally → List Entry → Type 0
+-- The workers' numbers and that of the entries made after them sum to the length of the journal. This is only a name.
+unfoldable pub MadeAll : Tally → List Entry → Type 0
 MadeAll counts journal = sum_by (λ c. c.steps) counts.workers + counts.finish ≡ length journal

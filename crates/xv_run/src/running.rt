@@ -1,14 +1,12 @@
 //! A job that is run by threads to its end.
 
-ghost use Rattle.std.specs.Prelude.{◌≡◌, ◌+◌, [], true, length, IfOk};
+ghost use Rattle.std.specs.Prelude.{◌≡◌, IfOk};
 ghost use Rattle.xv_model.specs.Job.{guest_count};
-ghost use Rattle.xv_model.specs.Work.{is_finished};
 ghost use Rattle.xv_job.specs.Written.{job_of};
-ghost use Rattle.xv_core.specs.Seen.{view_of};
 ghost use Rattle.xv_parts.specs.Memory.{IsInMemory, begun_in_memory};
 ghost use Rattle.xv_shared.specs.FirstCrew.{other_count};
 ghost use Rattle.xv_run.specs.Run.{HasRunOut, HasEnded};
-ghost use Rattle.xv_run.specs.Numbers.{tally, MadeAll};
+ghost use Rattle.xv_run.specs.Numbers.{tally};
 ghost use Rattle.xv_report.specs.Workers.{AreDistinct};
 
 use crate::numbers::count_workers;
@@ -36,12 +34,13 @@ pub fn run_job<G: Gate, X: Threads + Wait + Sync>(
     ensures ended { IfOk result (λ ran. HasEnded job ran.0 ran.1.finish) }
     ensures in_memory { IfOk result (λ ran. IsInMemory ran.0) }
     ensures counted { IfOk result (λ ran. ran.1 ≡ tally (job_of ran.0.job) ran.0.journal ran.1.finish) }
-    ensures all_made { IfOk result (λ ran. MadeAll ran.1 ran.0.journal) }
     ensures distinct { IfOk result (λ ran. AreDistinct ran.1.workers) }
 {
     let machine = begin(alloc, job)?;
     let blanks = blanks(machine.job());
-    let (machine, finish) = run_shared::<Brand, Brand, Brand, Brand, _, _>(rt, alloc, blanks, machine, gate)?;
+    let (machine, finish) = run_shared::<Brand, Brand, Brand, Brand, _, _>(
+        rt, alloc, blanks, machine, gate,
+    )?;
     let counts = count_workers(alloc, machine.job(), machine.journal(), finish)?;
     Ok((machine, counts))
 }
