@@ -44,7 +44,6 @@ entry-first journal rest i d there = ap (λ (es : List Entry). lines_with es res
 pub entry-taken : (a b c : Option (List ℕ)) (whole : List ℕ) (journal : List Entry) (rest later : List ℕ) (i : ℕ) (d e : Entry) → i < length journal → e ≡ get_or journal i d → later ≡ drop (bytes_read e) rest
     → AreTaken a b whole (lines_with (drop i journal) rest) → TookMore b c (turn_line e.event e.turn (take (bytes_read e) rest)) → AreTaken a c whole (lines_with (drop (i + 1) journal) later)
 entry-taken a b c whole journal rest later i d e there is behind h more =
-
     let whole_line : AreTaken a b whole (one e rest ++ lines_with (drop (i + 1) journal) (drop (bytes_read e) rest)) =
     subst (λ (x : Entry). AreTaken a b whole (one x rest ++ lines_with (drop (i + 1) journal) (drop (bytes_read x) rest))) (sym is)
     (subst (λ (t : List ℕ). AreTaken a b whole t) (entry-first journal rest i d there) h) in
