@@ -1,12 +1,12 @@
 -- A journal's lines have the bytes of its reads, one behind the other.
-use Rattle.std.specs.Prelude.{◌≡◌, ◌≤◌, ◌<◌, ℕ, suc, nat_le, ◌+◌, ◌&&◌, ◌==◌, Bool, true, false, List, [], ◌∷◌, ◌++◌, length, take, drop, is_some, is_none, Option, Some, None, if◌then◌else◌}
+use Rattle.std.specs.Prelude.{◌≡◌, ◌≤◌, ◌<◌, ℕ, ◌+◌, ◌&&◌, ◌==◌, Bool, true, false, List, [], ◌∷◌, ◌++◌, length, take, is_some, is_none, Option, Some, None, if◌then◌else◌}
 use Rattle.std.specs.List.{list_all}
 use Rattle.std.proofs.Common.{refl, ap, sym, subst, ◌∙◌, arith, append_assoc, append-nil, add-one, le-leb, take_at, drop_at}
 use Rattle.std.proofs.lemmas.Bool.{and_parts}
 use Rattle.std.proofs.lemmas.List.{length-append}
 use Rattle.xv_base.specs.declared.event.Event.TheVariants.{Guest, Release}
 use Rattle.xv_model.specs.Job.{Job, IsGoodJob, UnitOp, operation, trace}
-use Rattle.xv_model.specs.Guest.{Ended, ended, is_done, content, reads, read_bytes}
+use Rattle.xv_model.specs.Guest.{Ended, ended, is_done, reads, read_bytes}
 use Rattle.xv_model.specs.View.{View, first_view, disk, front}
 use Rattle.xv_model.specs.Wait.{Event, Why, Aim, Alone, Store, Join, Mirror, wait, fits, next_operation, next_aim}
 use Rattle.xv_model.specs.Effect.{effect, fault_effect, answer, fault_answer, guest_by, guest_answer, Turn}
@@ -14,7 +14,7 @@ use Rattle.xv_base.specs.declared.operation.Outcome.TheVariants.{Done, Faulted}
 use Rattle.xv_model.specs.Step.{Entry, step, turn, view_by, turn_by, breaks, is_wait, is_flagged, same_turn, after, is_run_from}
 use Rattle.xv_model.specs.Story.{Story, first_story, told, story_on, story_of}
 use Rattle.xv_model.specs.Invariant.{IsViewOf}
-use Rattle.xv_model.proofs.Histories.{push, bytes_read as read_by, read_bytes-push_at, reads-push_before}
+use Rattle.xv_model.proofs.Histories.{push, reads-push_before}
 use Rattle.xv_model.proofs.GoesOn.{guest_goes, release_goes}
 use Rattle.xv_model.proofs.Legal.{front_writes, front_has_more}
 use Rattle.xv_model.proofs.Bound.Runs.{agrees-goes}
@@ -28,7 +28,7 @@ use Rattle.xv_job.specs.Written.{job_of}
 use Rattle.xv_script.specs.Lines.{turn_line}
 use Rattle.xv_core.specs.Losing.{read_between}
 use Rattle.xv_core.specs.Reads.{read_length}
-use Rattle.xv_core.specs.Seen.{Seen, view_of}
+use Rattle.xv_core.specs.Seen.{Seen}
 use Rattle.xv_core.proofs.Stepped.ReadsBehind.{step-adds, reads-more, past-reads-none}
 use Rattle.xv_core.proofs.Keeping.Reads.{length-reads-push}
 use Rattle.xv_parts.specs.Memory.{IsInMemory}
