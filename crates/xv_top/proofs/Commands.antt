@@ -3,7 +3,10 @@ use Rattle.std.proofs.Common.{◌≡◌, ℕ, suc, ◌<◌, List, [], ◌∷◌,
 use Rattle.std.specs.Prelude.{◌^◌, codes, decimal}
 use Rattle.std.proofs.lemmas.Fmt.{decimal_injective}
 use Rattle.xv_top.specs.Command.{form_words, words_of, IsGoodCommand}
-use Rattle.xv_top.specs.Outcome.{Outcome}
+use Rattle.xv_base.specs.declared.status.Status.{Status}
+use Rattle.xv_top.specs.Outcome.{Outcome, OnInput, OnOutput, outcome}
+use Rattle.xv_top.specs.declared.program.Left.{Left}
+use Rattle.xv_top.specs.declared.program.Left.TheVariants.{Nothing}
 use Rattle.xv_top.specs.Promises.{PromiseOf}
 use Rattle.xv_top.specs.declared.command.Command.{Command}
 use Rattle.xv_top.specs.declared.command.Command.TheVariants.{Replay, Gen, Handover, Drive}
@@ -53,3 +56,7 @@ same-command (Drive m) (Drive n) good fine is = ap Drive (same-number m n good f
 pub promise-of : (words : List (List ℕ)) (c d : Command) (o : Outcome) → IsGoodCommand c → words ≡ words_of c → PromiseOf c o → IsGoodCommand d → words ≡ words_of d → PromiseOf d o
 promise-of words c d o good found promise fine is =
     subst (λ (x : Command). PromiseOf x o) (same-command c d good fine (sym found ∙ is)) promise
+
+-- what is promised where a call leaves nothing, where nothing is left
+pub nothing-left : (P : Outcome → Type 0) (input : OnInput) (output : OnOutput) (status : Status) (left : Left) → left ≡ Nothing → P (outcome input output status Nothing) → P (outcome input output status left)
+nothing-left P input output status left is promise = subst (λ (l : Left). P (outcome input output status l)) (sym is) promise

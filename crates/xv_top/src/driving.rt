@@ -20,7 +20,7 @@ ghost use Rattle.xv_top.specs.Promises.{DrivePromise};
 
 use crate::output::write_out;
 use crate::playing::PlayError;
-use crate::program::Left;
+use crate::program::{Left, leave};
 use std::alloc::Global;
 use xv_base::{LineBuf, NoMemory, Phase, Status, UnitId};
 use xv_device::MemDevice;
@@ -46,7 +46,7 @@ pub fn run_drive<O: Sink>(alloc: Global, number: u16, output: &mut O, left: &mut
 {
     match drive(alloc, number, output) {
         Ok(machine) => {
-            *left = Left::First(machine);
+            leave(left, Left::First(machine));
             Status::Fine
         }
         Err(PlayError::WriteFault) => Status::WriteFault,
@@ -72,7 +72,10 @@ fn drive<O: Sink>(alloc: Global, number: u16, output: &mut O) -> Result<Machine,
     };
     match write_driven(alloc, &machine, output) {
         Ok(()) => Ok(machine),
-        Err(error) => Err(error),
+        Err(error) => {
+            drop(machine);
+            Err(error)
+        }
     }
 }
 

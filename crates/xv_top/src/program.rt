@@ -30,6 +30,7 @@ use crate::output::write_result;
 use crate::playing::{PlayError, replay_on};
 use crate::refusal::{refuse_input, refuse_words};
 use std::alloc::Global;
+use std::mem::replace;
 use xv_base::Status;
 use xv_io::{Sink, Source};
 use xv_job::Job;
@@ -42,6 +43,14 @@ use xv_script::Line;
 pub enum Left {
     Nothing,
     First(Machine),
+}
+
+/// Puts a value where an earlier one was left. The earlier one is dropped by a call, since the prover goes through all that a
+/// drop frees at each place where one stands.
+pub fn leave(left: &mut Left, now: Left)
+    ensures { left.new ≡ now }
+{
+    drop(replace(left, now));
 }
 
 /// Runs the program: the command that the words call. `replay` reads a job and a script, plays the script, and writes
@@ -82,7 +91,7 @@ pub fn top<I: Source, O: Sink>(
     // `drive` brings its job's guests over, each to its end.
     ensures ends_all { (number : ℕ) (m : Seen) → number < 2 ^ 16 → map (λ w. string_bytes w) words.now ≡ words_of (Drive number) → left.new ≡ First m → (m.job ≡ made_job number) × HasEndedAll m }
 {
-    *left = Left::Nothing;
+    leave(left, Left::Nothing);
     match command_of(words) {
         Some(Command::Replay(form)) => run_replay(alloc, form, input, output, left),
         Some(Command::Gen(number)) => run_gen(alloc, number, output),
@@ -115,7 +124,7 @@ fn run_replay<I: Source, O: Sink>(
     };
     match replay(alloc, form, job, &lines, output) {
         Ok(machine) => {
-            *left = Left::First(machine);
+            leave(left, Left::First(machine));
             Status::Fine
         }
         Err(PlayError::WriteFault) => Status::WriteFault,
@@ -149,7 +158,10 @@ fn replay<O: Sink>(
     };
     match play_script(alloc, form, &mut machine, lines, output) {
         Ok(()) => Ok(machine),
-        Err(error) => Err(error),
+        Err(error) => {
+            drop(machine);
+            Err(error)
+        }
     }
 }
 

@@ -1,4 +1,4 @@
-use Rattle.std.proofs.Common.{refl, ◌≡◌}
+use Rattle.std.proofs.Common.{refl, sym, ◌∙◌, ◌≡◌}
 use Rattle.xv_core.specs.Seen.{Seen}
 use Rattle.xv_job.specs.Made.{made_job}
 use Rattle.xv_parts.specs.Memory.{IsInMemory}
@@ -15,17 +15,17 @@ returns-in-Ok-clause-promise g c = λ input reads.
       output = record { taken = c.in-Ok.ensures.written; handed_on = c.in-Ok.ensures.flushed; quiet = c.drive.ensures.quiet (ok-no_err _ _ _ c.in-Ok.is) };
       has_driven = c.in-Ok.ensures.driven;
       handed_over = c.in-Ok.ensures.handed_over;
-      is_left = refl;
+      is_left = c.leave.ensures;
     })
 
 pub returns-in-Ok-clause-loses_nothing : goal.returns-in-Ok-clause-loses_nothing
 returns-in-Ok-clause-loses_nothing g c = λ m is.
-    let inside = left-one IsInMemory c.in-Ok.machine m is c.in-Ok.ensures.in_memory in
+    let inside = left-one IsInMemory c.in-Ok.machine m (sym c.leave.ensures ∙ is) c.in-Ok.ensures.in_memory in
     (loses-in-memory m inside, zero-elsewhere m inside)
 
 pub returns-in-Ok-clause-ends_all : goal.returns-in-Ok-clause-ends_all
 returns-in-Ok-clause-ends_all g c = λ m is.
     let machine = c.in-Ok.machine in
     let driven = c.in-Ok.ensures.driven in
-    left-one (λ (n : Seen). (n.job ≡ made_job c.args.number) × HasEndedAll n) machine m is
+    left-one (λ (n : Seen). (n.job ≡ made_job c.args.number) × HasEndedAll n) machine m (sym c.leave.ensures ∙ is)
     (driven.of_job, ended-all machine driven.kept driven.finished c.in-Ok.ensures.handed_over)

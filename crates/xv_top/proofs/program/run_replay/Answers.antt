@@ -28,7 +28,7 @@ returns-in-Ok-replay-clause-promise g c =
       input = text;
       output = record { taken = c.in-Ok-replay.ensures.written; handed_on = c.in-Ok-replay.ensures.flushed; quiet = c.replay.ensures.quiet (ok-no_err _ _ _ c.in-Ok-replay.is) };
       has_run = c.in-Ok-replay.ensures.ran;
-      is_left = refl;
+      is_left = c.leave.ensures;
     })
 
 pub returns-in-Err-WriteFault-clause-promise : goal.returns-in-Err-WriteFault-clause-promise
@@ -53,18 +53,18 @@ returns-clause-promise g c =
 
 pub returns-in-Ok-replay-clause-loses_nothing : goal.returns-in-Ok-replay-clause-loses_nothing
 returns-in-Ok-replay-clause-loses_nothing g c = λ m is.
-    let inside = left-one IsInMemory c.in-Ok-replay.machine m is c.in-Ok-replay.ensures.in_memory in
+    let inside = left-one IsInMemory c.in-Ok-replay.machine m (sym c.leave.ensures ∙ is) c.in-Ok-replay.ensures.in_memory in
     (loses-in-memory m inside, zero-elsewhere m inside)
 
 pub returns-in-Ok-replay-clause-prints_all : goal.returns-in-Ok-replay-clause-prints_all
 returns-in-Ok-replay-clause-prints_all g c = λ m is.
     let text = subst (λ (lines : List Line). IfSome (g.I.Source.left c.args.input.now) (λ bytes. IsInput bytes c.in-Ok.found.0 lines)) (sym c.deref.ensures.value) c.in-Ok.ensures.text in
     let script = subst (λ (lines : List Line). IsScriptOf (job_of c.in-Ok.found.0) lines) (sym c.deref.ensures.value) c.in-Ok.ensures.script in
-    left-one (λ (n : Seen). PrintsAll (g.I.Source.left c.args.input.now) (g.O.Sink.taken c.args.output.now) (g.O.Sink.taken c.replay.new.output) n) c.in-Ok-replay.machine m is
+    left-one (λ (n : Seen). PrintsAll (g.I.Source.left c.args.input.now) (g.O.Sink.taken c.args.output.now) (g.O.Sink.taken c.replay.new.output) n) c.in-Ok-replay.machine m (sym c.leave.ensures ∙ is)
     (prints-all (g.I.Source.left c.args.input.now) (g.O.Sink.taken c.args.output.now) (g.O.Sink.taken c.replay.new.output) c.in-Ok.found.0 c.in-Ok-replay.machine c.deref.result.now c.in-Ok-replay.ensures.ran.of_job script text c.in-Ok-replay.ensures.printed)
 
 pub returns-in-Ok-replay-clause-of_input : goal.returns-in-Ok-replay-clause-of_input
 returns-in-Ok-replay-clause-of_input g c = λ m is.
     let text = subst (λ (lines : List Line). IfSome (g.I.Source.left c.args.input.now) (λ bytes. IsInput bytes c.in-Ok.found.0 lines)) (sym c.deref.ensures.value) c.in-Ok.ensures.text in
-    left-one (λ (n : Seen). IsOfInput (g.I.Source.left c.args.input.now) n) c.in-Ok-replay.machine m is
+    left-one (λ (n : Seen). IsOfInput (g.I.Source.left c.args.input.now) n) c.in-Ok-replay.machine m (sym c.leave.ensures ∙ is)
     (of-input (g.I.Source.left c.args.input.now) c.in-Ok.found.0 c.in-Ok-replay.machine c.deref.result.now c.in-Ok-replay.ensures.ran.of_job text)

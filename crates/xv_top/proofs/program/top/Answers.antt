@@ -5,7 +5,8 @@ use Rattle.xv_top.specs.Printed.{HasEndedAll}
 use Rattle.xv_top.proofs.Printed.{said-number}
 use Rattle.xv_top.specs.Command.{words_of}
 use Rattle.xv_top.specs.declared.command.Command.TheVariants.{Replay, Gen, Handover, Drive}
-use Rattle.xv_top.proofs.Commands.{promise-of}
+use Rattle.xv_top.specs.Promises.{GenPromise, HandoverPromise, WordsPromise}
+use Rattle.xv_top.proofs.Commands.{promise-of, nothing-left}
 use Rattle.xv_top.proofs.program.top.Goals as goal
 
 pub returns-in-Some-Replay-clause-promise : goal.returns-in-Some-Replay-clause-promise
@@ -15,11 +16,11 @@ returns-in-Some-Replay-clause-promise g c = λ command good is.
 pub returns-in-Some-Gen-clause-promise : goal.returns-in-Some-Gen-clause-promise
 returns-in-Some-Gen-clause-promise g c = λ command good is.
     promise-of _ (Gen c.in-Some-Gen.number) command _ c.run_gen.ensures.below (cc (c.in-Some-Gen.ensures.found, ap words_of c.in-Some-Gen.field-0-is))
-    (c.run_gen.ensures.promise _ (record { stays = refl; quiet = refl })) good is
+    (nothing-left (GenPromise c.in-Some-Gen.number) _ _ _ _ c.leave.ensures (c.run_gen.ensures.promise _ (record { stays = refl; quiet = refl }))) good is
 
 pub returns-in-Some-Handover-clause-promise : goal.returns-in-Some-Handover-clause-promise
 returns-in-Some-Handover-clause-promise g c = λ command good is.
-    promise-of _ Handover command _ tt (cc (c.in-Some-Handover.ensures.found, ap words_of c.in-Some-Handover.field-0-is)) c.run_handover.ensures good is
+    promise-of _ Handover command _ tt (cc (c.in-Some-Handover.ensures.found, ap words_of c.in-Some-Handover.field-0-is)) (nothing-left HandoverPromise _ _ _ _ c.leave.ensures c.run_handover.ensures) good is
 
 pub returns-in-Some-Drive-clause-promise : goal.returns-in-Some-Drive-clause-promise
 returns-in-Some-Drive-clause-promise g c = λ command good is.
@@ -27,7 +28,7 @@ returns-in-Some-Drive-clause-promise g c = λ command good is.
     (c.run_drive.ensures.promise _ (record { stays = refl; quiet = refl })) good is
 
 pub returns-in-None-clause-words : goal.returns-in-None-clause-words
-returns-in-None-clause-words g c = λ _. c.refuse_words.ensures _ (record { stays = refl; quiet = refl })
+returns-in-None-clause-words g c = λ _. nothing-left WordsPromise _ _ _ _ c.leave.ensures (c.refuse_words.ensures _ (record { stays = refl; quiet = refl }))
 
 pub returns-in-Some-Drive-clause-ends_all : goal.returns-in-Some-Drive-clause-ends_all
 returns-in-Some-Drive-clause-ends_all g c = λ number m small words is.
