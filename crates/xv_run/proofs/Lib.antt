@@ -2,6 +2,8 @@ pub mod Workers
 pub mod Ended
 pub mod Inputs
 pub mod Lines
+pub mod GuestReads
+pub mod Sums
 pub mod Statuses
 pub mod Printing
 pub mod Left

@@ -1,5 +1,5 @@
 -- Lines that were taken one after another.
-use Rattle.std.proofs.Common.{◌≡◌, ℕ, ◌+◌, ◌≤◌, true, List, [], ◌∷◌, ◌++◌, length, take, drop, get_or, Option, refl, sym, ap, subst, ◌∙◌, arith, append_assoc, append-nil}
+use Rattle.std.proofs.Common.{◌≡◌, ℕ, ◌+◌, ◌≤◌, true, List, [], ◌++◌, length, take, drop, get_or, Option, refl, sym, ap, subst, ◌∙◌, arith, append_assoc, append-nil}
 use Rattle.std.specs.Prelude.{◌<◌, nat_le, false, Bool}
 use Rattle.std.specs.List.{list_all}
 use Rattle.std.proofs.lemmas.List.{drop_more, drop_all}
@@ -7,7 +7,7 @@ use Rattle.std.proofs.lemmas.List.Folds.{list_all_at}
 use Rattle.std.proofs.lemmas.List.{length-take}
 use Rattle.xv_base.specs.declared.answer.Entry.{Entry}
 use Rattle.xv_io.specs.Io.{TookMore, TookFront}
-use Rattle.xv_io.proofs.Took.{took-none, took-both, front-then}
+use Rattle.xv_io.proofs.Took.{took-both, front-then}
 use Rattle.xv_script.specs.Lines.{turn_line}
 use Rattle.xv_run.specs.Journal.{bytes_read, is_short, lines_with}
 
@@ -16,9 +16,6 @@ pub record AreTaken (old new : Option (List ℕ)) (whole rest : List ℕ) : Type
   pub text : List ℕ
   pub taken : TookMore old new text
   pub parts : whole ≡ text ++ rest
-
-pub none-taken : (a : Option (List ℕ)) (whole : List ℕ) → AreTaken a a whole whole
-none-taken a whole = record { text = []; taken = took-none a; parts = refl }
 
 pub all-taken : (a b : Option (List ℕ)) (whole rest : List ℕ) → rest ≡ [] → AreTaken a b whole rest → TookMore a b whole
 all-taken a b whole rest none h =
@@ -44,7 +41,6 @@ entry-first journal rest i d there = ap (λ (es : List Entry). lines_with es res
 pub entry-taken : (a b c : Option (List ℕ)) (whole : List ℕ) (journal : List Entry) (rest later : List ℕ) (i : ℕ) (d e : Entry) → i < length journal → e ≡ get_or journal i d → later ≡ drop (bytes_read e) rest
     → AreTaken a b whole (lines_with (drop i journal) rest) → TookMore b c (turn_line e.event e.turn (take (bytes_read e) rest)) → AreTaken a c whole (lines_with (drop (i + 1) journal) later)
 entry-taken a b c whole journal rest later i d e there is behind h more =
-
     let whole_line : AreTaken a b whole (one e rest ++ lines_with (drop (i + 1) journal) (drop (bytes_read e) rest)) =
     subst (λ (x : Entry). AreTaken a b whole (one x rest ++ lines_with (drop (i + 1) journal) (drop (bytes_read x) rest))) (sym is)
     (subst (λ (t : List ℕ). AreTaken a b whole t) (entry-first journal rest i d there) h) in

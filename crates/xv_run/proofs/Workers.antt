@@ -1,5 +1,5 @@
 -- The workers of a job are distinct.
-use Rattle.std.proofs.Common.{◌≡◌, ℕ, zero, suc, ◌+◌, ◌-◌, take, ◌<◌, ◌==◌, Bool, false, List, [], ◌∷◌, ◌++◌, length, map, refl, sym, ap, subst, ◌∙◌, arith, append_assoc}
+use Rattle.std.proofs.Common.{◌≡◌, ℕ, zero, suc, ◌+◌, ◌-◌, take, ◌<◌, ◌==◌, false, List, [], ◌∷◌, ◌++◌, length, map, refl, sym, ap, subst, ◌∙◌, arith, append_assoc}
 use Rattle.std.proofs.lemmas.List.FromFn.{map-range_with_len_more}
 use Rattle.std.specs.List.{range_with_len, AllByRecursion, IsDistinct}
 use Rattle.xv_model.specs.Job.{Job, guest_count}
@@ -35,23 +35,32 @@ of-kind make apart a (suc n) rest fine distinct = (later make apart a (a + 1) n 
 differ : (m n : ℕ) → m < n → (m == n) ≡ false
 differ m n lt = grind (arith, lt)
 
+-- the workers from each kind on
+abbrev pub to_applier : List Job1
+to_applier = Applier ∷ []
+
+abbrev pub to_receivers : Job → List Job1
+to_receivers job = map Receiver (range_with_len 0 job.config.streams) ++ to_applier
+
+abbrev pub to_senders : Job → List Job1
+to_senders job = map Sender (range_with_len 0 job.config.streams) ++ to_receivers job
+
+abbrev pub to_pager : Job → List Job1
+to_pager job = Pager ∷ to_senders job
+
+abbrev pub to_copiers : Job → List Job1
+to_copiers job = map Copier (range_with_len 0 (length job.shape.disks)) ++ to_pager job
 
 pub workers-distinct : (job : Job) → IsDistinct is_worker (workers job)
 unfolding IsDistinct
 workers-distinct job =
-    let guests = guest_count job in
     let disks = length job.shape.disks in
     let streams = job.config.streams in
-    let to_applier : List Job1 = Applier ∷ [] in
-    let to_receivers : List Job1 = map Receiver (range_with_len 0 streams) ++ to_applier in
-    let to_senders : List Job1 = map Sender (range_with_len 0 streams) ++ to_receivers in
-    let to_pager : List Job1 = Pager ∷ to_senders in
-    let to_copiers : List Job1 = map Copier (range_with_len 0 disks) ++ to_pager in
-    let receivers = of-kind Receiver (λ m n lt. differ m n lt) 0 streams to_applier (λ k. (refl, tt)) (tt, tt) in
-    let senders = of-kind Sender (λ m n lt. differ m n lt) 0 streams to_receivers (λ k. others (Sender k) Receiver (λ n. refl) 0 streams to_applier (refl, tt)) receivers in
-    let pager = (others Pager Sender (λ n. refl) 0 streams to_receivers (others Pager Receiver (λ n. refl) 0 streams to_applier (refl, tt)), senders) in
-    let copiers = of-kind Copier (λ m n lt. differ m n lt) 0 disks to_pager (λ k. (refl, others (Copier k) Sender (λ n. refl) 0 streams to_receivers (others (Copier k) Receiver (λ n. refl) 0 streams to_applier (refl, tt)))) pager in
-    of-kind Guest (λ m n lt. differ m n lt) 0 guests to_copiers (λ k. others (Guest k) Copier (λ n. refl) 0 disks to_pager (refl, others (Guest k) Sender (λ n. refl) 0 streams to_receivers (others (Guest k) Receiver (λ n. refl) 0 streams to_applier (refl, tt)))) copiers
+    let receivers : IsDistinct is_worker (to_receivers job) = of-kind Receiver (λ m n lt. differ m n lt) 0 streams to_applier (λ k. (refl, tt)) (tt, tt) in
+    let senders : IsDistinct is_worker (to_senders job) = of-kind Sender (λ m n lt. differ m n lt) 0 streams (to_receivers job) (λ k. others (Sender k) Receiver (λ n. refl) 0 streams to_applier (refl, tt)) receivers in
+    let pager : IsDistinct is_worker (to_pager job) = (others Pager Sender (λ n. refl) 0 streams (to_receivers job) (others Pager Receiver (λ n. refl) 0 streams to_applier (refl, tt)), senders) in
+    let copiers : IsDistinct is_worker (to_copiers job) = of-kind Copier (λ m n lt. differ m n lt) 0 disks (to_pager job) (λ k. (refl, others (Copier k) Sender (λ n. refl) 0 streams (to_receivers job) (others (Copier k) Receiver (λ n. refl) 0 streams to_applier (refl, tt)))) pager in
+    of-kind Guest (λ m n lt. differ m n lt) 0 (guest_count job) (to_copiers job) (λ k. others (Guest k) Copier (λ n. refl) 0 disks (to_pager job) (refl, others (Guest k) Sender (λ n. refl) 0 streams (to_receivers job) (others (Guest k) Receiver (λ n. refl) 0 streams to_applier (refl, tt)))) copiers
 
 -- so are their counts
 names : (journal : List Entry) (ws : List Job1) → map (λ c. c.worker) (map (counted journal) ws) ≡ ws

@@ -1,5 +1,5 @@
 -- How many entries of a journal each worker made.
-use Rattle.std.specs.Prelude.{ℕ, List, [], ◌∷◌, ◌++◌, ◌-◌, length, map, take, count_by}
+use Rattle.std.specs.Prelude.{◌≡◌, ℕ, List, [], ◌∷◌, ◌++◌, ◌+◌, ◌-◌, length, map, take, sum_by, count_by}
 use Rattle.std.specs.List.{range_with_len}
 use Rattle.xv_base.specs.declared.event.Event.{Event}
 use Rattle.xv_base.specs.declared.event.Event.TheVariants.{Guest as GuestEvent, Begin, Read, Advance, Release, Round, Page, Send, Deliver, Apply, Ack, Credit, Stun, Switch, Cancel}
@@ -48,3 +48,7 @@ workers job =
 -- the number of each over a journal whose last entries, so many, were made after them
 abbrev pub tally : Job → List Entry → ℕ → Tally
 tally job journal finish = record { workers = map (counted (take (length journal - finish) journal)) (workers job); finish = finish }
+
+-- The workers' numbers and that of the entries made after them sum to the length of the journal. This is only a name.
+unfoldable pub MadeAll : Tally → List Entry → Type 0
+MadeAll counts journal = sum_by (λ c. c.steps) counts.workers + counts.finish ≡ length journal

@@ -26,7 +26,7 @@ use Rattle.xv_top.specs.declared.command.Form.{Form}
 use Rattle.xv_top.specs.declared.command.Form.TheVariants.{Rows, Json}
 use Rattle.xv_top.specs.declared.program.Left.TheVariants.{First}
 use Rattle.xv_run.specs.Journal.{journal_text}
-use Rattle.xv_run.specs.Numbers.{tally}
+use Rattle.xv_run.specs.Numbers.{tally, MadeAll}
 use Rattle.xv_run.specs.Refused.{IsJob}
 
 -- the report in a form, with the workers
@@ -57,15 +57,16 @@ pub record HasRunOut (written : Written) (m : Seen) (finish : ℕ) : Type 0 wher
   pub finished : is_finished (job_of m.job) (view_of m) ≡ true
   pub within : finish ≤ length m.journal
 
--- The job ran to its end, and this is what was left: a run of it, in which exactly those calls failed that its faults name; the last
--- entries, so many, were made after the workers. Without planned faults it ends as was asked. Where it has switched over, the
--- destination holds what the unmigrated guest leaves.
+-- The job ran to its end, and this is what was left: a run of it, in which exactly those calls failed that its faults name. Its last
+-- entries, so many, count as made after the workers, and each other entry is one worker's. Without planned faults it ends as was asked.
+-- Where it has switched over, the destination holds what the unmigrated guest leaves.
 pub record HasEnded (written : Written) (m : Seen) (finish : ℕ) : Type 0 where
   pub of_job : m.job ≡ written
   pub kept : IsKept m
   pub faithful : is_faithful (job_of written) m.journal ≡ true
   pub finished : is_finished (job_of m.job) (view_of m) ≡ true
   pub within : finish ≤ length m.journal
+  pub all_made : MadeAll (tally (job_of written) m.journal finish) m.journal
   pub asked : written.faults ≡ [] → (view_of m).phase ≡ phase_asked (job_of written)
   pub counts : CountsWrites m
   pub hands_over : (view_of m).phase ≡ Switched → HasHandedOver m

@@ -28,11 +28,7 @@ pub fn write_journal<O: Sink>(machine: &Machine, output: &mut O) -> Result<(), W
 }
 
 /// Writes the line of each entry, whose reads stand one behind the other in `reads`.
-fn write_entries<O: Sink>(
-    journal: &[Entry],
-    reads: &[u8],
-    output: &mut O,
-) -> Result<(), WriteFault>
+fn write_entries<O: Sink>(journal: &[Entry], reads: &[u8], output: &mut O) -> Result<(), WriteFault>
     requires short { list_all is_short journal.now ≡ true }
     ensures whole { OnOk result (TookMore (O.taken output.old) (O.taken output.new) (lines_with journal.now reads.now)) }
     ensures front { TookFront (O.taken output.old) (O.taken output.new) (lines_with journal.now reads.now) }

@@ -2,7 +2,6 @@
 
 ghost use Rattle.std.specs.Prelude.{◌≡◌, ◌≤◌, ◌-◌, ◌++◌, map, take, length, IfOk, OnOk, ◌∷◌, []};
 ghost use Rattle.std.specs.List.{range_with_len};
-ghost use Rattle.xv_model.specs.Job.{guest_count};
 ghost use Rattle.xv_job.specs.Written.{job_of};
 ghost use Rattle.xv_report.specs.Workers.{AreDistinct, is_worker};
 ghost use Rattle.xv_report.specs.declared.counts.Job1.TheVariants.{Guest, Copier, Sender, Receiver};
@@ -149,10 +148,12 @@ fn worker_of(event: Event) -> Job1
 {
     match event {
         Event::Guest(guest) => Job1::Guest(guest.0),
-        Event::Begin(disk) | Event::Read(disk) | Event::Advance(disk) | Event::Release(disk) => Job1::Copier(disk),
+        Event::Begin(disk) | Event::Read(disk) | Event::Advance(disk) | Event::Release(disk) =>
+            Job1::Copier(disk),
         Event::Send(stream) => Job1::Sender(stream),
         Event::Deliver(stream) => Job1::Receiver(stream),
         Event::Apply | Event::Ack => Job1::Applier,
-        Event::Round | Event::Page | Event::Credit | Event::Stun | Event::Switch | Event::Cancel => Job1::Pager,
+        Event::Round | Event::Page | Event::Credit | Event::Stun | Event::Switch | Event::Cancel =>
+            Job1::Pager,
     }
 }

@@ -1,10 +1,8 @@
 //! A job that is run by threads to its end.
 
-ghost use Rattle.std.specs.Prelude.{◌≡◌, ◌+◌, [], true, length, IfOk};
+ghost use Rattle.std.specs.Prelude.{◌≡◌, IfOk};
 ghost use Rattle.xv_model.specs.Job.{guest_count};
-ghost use Rattle.xv_model.specs.Work.{is_finished};
 ghost use Rattle.xv_job.specs.Written.{job_of};
-ghost use Rattle.xv_core.specs.Seen.{view_of};
 ghost use Rattle.xv_parts.specs.Memory.{IsInMemory, begun_in_memory};
 ghost use Rattle.xv_shared.specs.FirstCrew.{other_count};
 ghost use Rattle.xv_run.specs.Run.{HasRunOut, HasEnded};
@@ -40,7 +38,9 @@ pub fn run_job<G: Gate, X: Threads + Wait + Sync>(
 {
     let machine = begin(alloc, job)?;
     let blanks = blanks(machine.job());
-    let (machine, finish) = run_shared::<Brand, Brand, Brand, Brand, _, _>(rt, alloc, blanks, machine, gate)?;
+    let (machine, finish) = run_shared::<Brand, Brand, Brand, Brand, _, _>(
+        rt, alloc, blanks, machine, gate,
+    )?;
     let counts = count_workers(alloc, machine.job(), machine.journal(), finish)?;
     Ok((machine, counts))
 }

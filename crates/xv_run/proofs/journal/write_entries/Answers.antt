@@ -4,7 +4,7 @@ use Rattle.xv_run.proofs.Lines.{turn-taken, turn-cut, turn-short, ends-taken}
 use Rattle.xv_run.proofs.journal.write_entries.Goals as goal
 
 pub write_entry-requires : goal.write_entry-requires
-write_entry-requires g c = turn-short c.args.journal.now _ _ _ c.loop-entry.entry-index _ (omega arith) c.bytes_read-count.ensures c.front.ensures c.requires
+write_entry-requires g c = turn-short c.args.journal.now _ _ _ c.loop-entry.entry-index _ (omega arith) c.bytes_read-count.ensures c.front.ensures c.requires.short
 
 pub loop-entry-preserved : goal.loop-entry-preserved
 loop-entry-preserved g c = record {

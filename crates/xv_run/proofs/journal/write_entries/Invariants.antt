@@ -1,5 +1,4 @@
-use Rattle.std.proofs.Common.{◌≡◌, ◌++◌, drop, List, ℕ}
-use Rattle.xv_io.specs.Io.{TookMore}
+use Rattle.std.proofs.Common.{◌≡◌, drop}
 use Rattle.xv_run.specs.Journal.{lines_with}
 use Rattle.xv_run.proofs.Lines.{AreTaken}
 use Rattle.xv_run.proofs.journal.write_entries.Given as goal

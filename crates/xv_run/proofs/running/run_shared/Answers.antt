@@ -1,23 +1,18 @@
-use Rattle.std.proofs.Common.{ap, sym, subst}
+use Rattle.std.proofs.Common.{sym, subst}
 use Rattle.xv_core.specs.Seen.{Seen}
 use Rattle.xv_core.specs.Origin.{HasOrigin}
 use Rattle.xv_core.proofs.Stepped.Origins.{origin-same}
 use Rattle.xv_run.proofs.Ended.{has-run_out}
 use Rattle.xv_run.proofs.running.run_shared.Goals as goal
 
-pub new-requires : goal.new-requires
-new-requires g c = record {
-  none = ap (λ (s : Seen). s.journal) c.requires.begun;
-  came = subst (λ (s : Seen). HasOrigin s c.args.machine) (sym c.requires.named) (origin-same c.args.machine);
-  done = c.requires.done;
-  queued = c.requires.queued;
-  faulted = c.requires.faulted;
-  other = c.requires.other;
-}
+pub new-requires-clause-came : goal.new-requires-clause-came
+new-requires-clause-came g c κs within = subst (λ (s : Seen). HasOrigin s c.args.machine) (sym c.requires.named) (origin-same c.args.machine)
 
-pub returns-in-Ok-clause-ran : goal.returns-in-Ok-clause-ran
-returns-in-Ok-clause-ran g c =
-    let ends = c.finish.ensures in
-    has-run_out c.args.machine c.close.result c.finish.new.migration c.finish.result c.requires.begun
-    (subst (λ (s : Seen). HasOrigin s c.close.result) c.requires.named c.close.ensures.came)
-    ends.job ends.origin ends.kept ends.finished ends.grew
+pub returns : goal.returns
+returns g c =
+    let closed = c.close-machine.result in
+    let ends = c.finish-finish.ensures in
+    let came = subst (λ (s : Seen). HasOrigin s closed) c.requires.named c.close-machine.ensures.came in
+    record {
+      ran = has-run_out c.args.machine closed c.finish-finish.new.migration c.finish-finish.result c.requires.begun came ends.job ends.origin ends.kept ends.finished ends.grew;
+    }
