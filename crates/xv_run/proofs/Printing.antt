@@ -1,14 +1,12 @@
 -- The report and the image of a migration in memory are those that its journal says.
-use Rattle.std.proofs.Common.{◌≡◌, ℕ, List, ◌++◌, length, sym, ap, ◌∙◌, subst, Option}
+use Rattle.std.proofs.Common.{◌≡◌, ℕ, List, ◌++◌, length, sym, ap, ◌∙◌}
 use Rattle.std.specs.Prelude.{Result, Ok, Err, OnOk}
 use Rattle.xv_base.specs.declared.event.Totals.{Totals}
 use Rattle.xv_device.specs.Memory.{Device, told}
-use Rattle.xv_io.specs.Io.{TookMore, TookFront}
-use Rattle.xv_io.proofs.Took.{took-both}
 use Rattle.xv_model.specs.Report.{totals}
 use Rattle.xv_report.specs.Texts.{image_text}
 use Rattle.xv_report.specs.Workers.{Tally}
-use Rattle.xv_job.specs.Written.{Written, job_of}
+use Rattle.xv_job.specs.Written.{job_of}
 use Rattle.xv_core.specs.Seen.{Seen, view_of}
 use Rattle.xv_core.specs.Keeping.{told_contents}
 use Rattle.xv_parts.specs.Memory.{IsInMemory}

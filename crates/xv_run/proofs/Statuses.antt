@@ -5,7 +5,6 @@ use Rattle.xv_base.specs.declared.event.Phase.{Phase}
 use Rattle.xv_base.specs.declared.event.Phase.TheVariants.{Switched as SwitchedPhase, Cancelled as CancelledPhase, Failed as FailedPhase}
 use Rattle.xv_base.specs.declared.status.Status.{Status}
 use Rattle.xv_base.specs.declared.status.Status.TheVariants.{Fine, BadWords, BadInput, ReadFault, WriteFault, NoMemory, Failed, Cancelled}
-use Rattle.xv_core.specs.Seen.{Seen, view_of}
 use Rattle.xv_top.specs.Outcome.{Outcome, ReadsQuietly, ReadsWithin, WriteFails}
 use Rattle.xv_top.specs.Promises.{IsRefusedBy, IsRefusalCut, IsReadFailed, IsOutOfMemory}
 use Rattle.xv_top.specs.declared.command.Form.{Form}

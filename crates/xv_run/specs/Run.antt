@@ -58,8 +58,8 @@ pub record HasRunOut (written : Written) (m : Seen) (finish : ℕ) : Type 0 wher
   pub within : finish ≤ length m.journal
 
 -- The job ran to its end, and this is what was left: a run of it, in which exactly those calls failed that its faults name. Its last
--- entries, so many, count as made after the workers, and each other entry is one worker's. Without planned faults it ends as was
--- asked. Where it has switched over, the destination holds what the unmigrated guest leaves.
+-- entries, so many, count as made after the workers, and each other entry is one worker's. Without planned faults it ends as was asked.
+-- Where it has switched over, the destination holds what the unmigrated guest leaves.
 pub record HasEnded (written : Written) (m : Seen) (finish : ℕ) : Type 0 where
   pub of_job : m.job ≡ written
   pub kept : IsKept m

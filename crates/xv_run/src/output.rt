@@ -6,7 +6,6 @@ ghost use Rattle.xv_io.specs.Io.{TookMore, TookFront};
 ghost use Rattle.xv_job.specs.Written.{job_of};
 ghost use Rattle.xv_report.specs.Workers.{AreDistinct};
 ghost use Rattle.xv_parts.specs.Memory.{IsInMemory};
-ghost use Rattle.xv_top.specs.Replay.{image_of};
 ghost use Rattle.xv_top.specs.declared.command.Form.TheVariants.{Json};
 ghost use Rattle.xv_run.specs.Journal.{journal_text};
 ghost use Rattle.xv_run.specs.Numbers.{tally};

@@ -1,5 +1,4 @@
-use Rattle.std.proofs.Common.{◌≡◌, ap, ◌∙◌, arith}
-use Rattle.xv_run.specs.Refused.{run_fault}
+use Rattle.std.proofs.Common.{arith}
 use Rattle.xv_run.proofs.Inputs.{job-alone, job-followed, job-fault}
 use Rattle.xv_run.proofs.input.parse.Goals as goal
 
