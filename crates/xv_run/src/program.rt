@@ -29,7 +29,7 @@ use xv_job::Job;
 use xv_parts::Machine;
 use xv_report::JsonFault;
 use xv_shared::Gate;
-use xv_top::{Form, InputError, Left, refuse_input, refuse_words};
+use xv_top::{Form, InputError, Left, leave, refuse_input, refuse_words};
 
 /// Runs the command `run`: reads a job, runs it by a thread for each of its workers, each of whose calls the gate may hold up, and
 /// by the driver to its end, and writes its journal, the report with the workers' numbers, and the image; `left` is then the
@@ -63,7 +63,7 @@ pub fn top_run<I: Source, O: Sink, G: Gate, X: Threads + Wait + Sync>(
     // What is printed is that journal, of the job that was read.
     ensures prints_all { (m : Seen) → left.new ≡ First m → PrintsRun (I.left input.old) (O.taken output.old) (O.taken output.new) m }
 {
-    *left = Left::Nothing;
+    leave(left, Left::Nothing);
     match form_of(words) {
         Some(form) => run(rt, alloc, form, input, output, gate, left),
         None => refuse_words(output),
@@ -94,7 +94,7 @@ fn run<I: Source, O: Sink, G: Gate, X: Threads + Wait + Sync>(
     match run_out(rt, alloc, form, job, output, gate) {
         Ok(machine) => {
             let status = status_of(&machine);
-            *left = Left::First(machine);
+            leave(left, Left::First(machine));
             status
         }
         Err(JsonFault::WriteFault) => Status::WriteFault,
@@ -128,7 +128,10 @@ fn run_out<O: Sink, G: Gate, X: Threads + Wait + Sync>(
     };
     match write_run(alloc, form, &machine, &counts, output) {
         Ok(()) => Ok(machine),
-        Err(error) => Err(error),
+        Err(error) => {
+            drop(machine);
+            Err(error)
+        }
     }
 }
 

@@ -41,8 +41,13 @@ pub fn run_job<G: Gate, X: Threads + Wait + Sync>(
     let (machine, finish) = run_shared::<Brand, Brand, Brand, Brand, _, _>(
         rt, alloc, blanks, machine, gate,
     )?;
-    let counts = count_workers(alloc, machine.job(), machine.journal(), finish)?;
-    Ok((machine, counts))
+    match count_workers(alloc, machine.job(), machine.journal(), finish) {
+        Ok(counts) => Ok((machine, counts)),
+        Err(NoMemory) => {
+            drop(machine);
+            Err(NoMemory)
+        }
+    }
 }
 
 /// Blanks of as many parts as a job has guests, and other workers.
@@ -90,7 +95,10 @@ fn run_shared<
 {
     let (shared, mut crew) = match Shared::<_, _, _, D, Q, F, R>::new(alloc, blanks, machine) {
         Ok(made) => made,
-        Err(_) => return Err(NoMemory),
+        Err(machine) => {
+            drop(machine);
+            return Err(NoMemory);
+        }
     };
     run_workers(rt, &shared, &mut crew, gate);
     let mut machine = shared.close(crew);

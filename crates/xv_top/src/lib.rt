@@ -26,5 +26,5 @@ pub use input::{InputError, read_bytes};
 pub use laws::answered_lines_are_those_read;
 pub use output::{hand_on, layout_of};
 pub use playing::replay_on;
-pub use program::{Left, top};
+pub use program::{Left, leave, top};
 pub use refusal::{refuse_input, refuse_words};

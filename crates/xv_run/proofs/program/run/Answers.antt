@@ -1,4 +1,4 @@
-use Rattle.std.proofs.Common.{refl, inr}
+use Rattle.std.proofs.Common.{sym, ◌∙◌, inr}
 use Rattle.xv_core.specs.Seen.{Seen}
 use Rattle.xv_parts.specs.Memory.{IsInMemory}
 use Rattle.xv_top.proofs.Printed.{loses-in-memory, zero-elsewhere, left-one}
@@ -16,7 +16,7 @@ returns-in-Ok-run_out-clause-promise g c =
     run-promise c.args.form _ c.read_input.ensures.most (λ not. absurd (not (ends-over _ _ c.status_of-status.ensures)))
     (run-says c.args.form _ _ _ c.status_of-status.ensures
     (is-run c.args.form _ c.in-Ok.job c.in-Ok-run_out.machine c.in-Ok-run_out.ensures.taken c.in-Ok.ensures.text
-    (record { ended = c.in-Ok.ensures.ended; quiet = c.read_input.ensures.quiet (ok-no_err _ _ _ c.in-Ok.is) }) c.in-Ok-run_out.ensures.flushed (c.run_out.ensures.quiet (ok-no_err _ _ _ c.in-Ok-run_out.is)) refl))
+    (record { ended = c.in-Ok.ensures.ended; quiet = c.read_input.ensures.quiet (ok-no_err _ _ _ c.in-Ok.is) }) c.in-Ok-run_out.ensures.flushed (c.run_out.ensures.quiet (ok-no_err _ _ _ c.in-Ok-run_out.is)) c.leave.ensures))
 
 pub returns-in-Err-WriteFault-clause-promise : goal.returns-in-Err-WriteFault-clause-promise
 returns-in-Err-WriteFault-clause-promise g c =
@@ -34,11 +34,11 @@ returns-in-Err-NoMemory-run_out-clause-promise g c =
 
 pub returns-in-Ok-run_out-clause-loses_nothing : goal.returns-in-Ok-run_out-clause-loses_nothing
 returns-in-Ok-run_out-clause-loses_nothing g c = λ m is.
-    let inside = left-one IsInMemory c.in-Ok-run_out.machine m is c.in-Ok-run_out.ensures.in_memory in
+    let inside = left-one IsInMemory c.in-Ok-run_out.machine m (sym c.leave.ensures ∙ is) c.in-Ok-run_out.ensures.in_memory in
     (loses-in-memory m inside, zero-elsewhere m inside)
 
 pub returns-in-Ok-run_out-clause-prints_all : goal.returns-in-Ok-run_out-clause-prints_all
 returns-in-Ok-run_out-clause-prints_all g c = λ m is.
     let machine = c.in-Ok-run_out.machine in
-    left-one (λ (n : Seen). PrintsRun (g.I.Source.left c.args.input.now) (g.O.Sink.taken c.args.output.now) (g.O.Sink.taken c.run_out.new.output) n) machine m is
+    left-one (λ (n : Seen). PrintsRun (g.I.Source.left c.args.input.now) (g.O.Sink.taken c.args.output.now) (g.O.Sink.taken c.run_out.new.output) n) machine m (sym c.leave.ensures ∙ is)
     (prints-run c.args.form c.in-Ok.job machine _ _ _ c.in-Ok-run_out.ensures.taken c.in-Ok-run_out.ensures.in_memory c.in-Ok.ensures.text)
