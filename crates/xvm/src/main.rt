@@ -23,7 +23,15 @@ fn run(rt: &HostRuntime) -> Option<Status> {
     let alloc = rt.alloc();
     Some(match words.as_slice() {
         [word, ..] if word.as_str() == "run" => {
-            top_run(rt, alloc, &words, &mut input, &mut output, &FreeGate, &mut left)
+            top_run(
+                rt,
+                alloc,
+                &words,
+                &mut input,
+                &mut output,
+                &FreeGate,
+                &mut left,
+            )
         }
         _ => top(alloc, &words, &mut input, &mut output, &mut left),
     })
