@@ -3,6 +3,8 @@
 
 use std::io::{BufWriter, ErrorKind};
 use std::process::ExitCode;
+use std::sync::Wait;
+use std::thread::Threads;
 use std::{env, io};
 use xv_base::Status;
 use xv_io::{StdSink, StdSource};
@@ -11,11 +13,12 @@ use xv_shared::FreeGate;
 use xv_top::{Left, top};
 
 fn main(rt: HostRuntime) -> ExitCode {
-    ExitCode::from(run(&rt).unwrap_or(Status::NoMemory).code())
+    ExitCode::from(run(&rt, &rt).unwrap_or(Status::NoMemory).code())
 }
 
-/// Runs the program; none for want of memory before it begins.
-fn run(rt: &HostRuntime) -> Option<Status> {
+/// Runs the program; none for want of memory before it begins. The runtime starts threads and waits only in `main`, so for these
+/// it is taken apart.
+fn run<X: Threads + Wait + Sync>(threads: &X, rt: &HostRuntime) -> Option<Status> {
     let words = words(rt)?;
     let mut input = StdSource::new(rt.reader());
     let mut output = StdSink::new(BufWriter::new(rt.alloc(), io::writer(rt)).ok()?);
@@ -23,7 +26,15 @@ fn run(rt: &HostRuntime) -> Option<Status> {
     let alloc = rt.alloc();
     Some(match words.as_slice() {
         [word, ..] if word.as_str() == "run" => {
-            top_run(rt, alloc, &words, &mut input, &mut output, &FreeGate, &mut left)
+            top_run(
+                threads,
+                alloc,
+                &words,
+                &mut input,
+                &mut output,
+                &FreeGate,
+                &mut left,
+            )
         }
         _ => top(alloc, &words, &mut input, &mut output, &mut left),
     })
