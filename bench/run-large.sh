@@ -6,6 +6,7 @@
 program=$(cd "$(dirname "$0")/.." && pwd)/crates/xvm/out/xvm
 work=$(mktemp -d)
 trap 'rm -rf "$work"' EXIT
+trap 'exit 130' HUP INT TERM
 mebibytes=512
 units=$((mebibytes << 8)) # of 4,096 bytes each
 awk -v half=$((units / 2)) -v filled="$1" 'BEGIN {
