@@ -148,6 +148,9 @@ fn are_filled(device: &MemDevice, bytes: [u8; 3]) -> bool {
     true
 }
 
+/// Drops a migration, here alone: what goes with it is then proved once.
+fn let_go(_machine: Machine) {}
+
 /// What the driver steps next.
 fn next_of(machine: &Machine) -> Option<Event> {
     next(machine)
@@ -156,7 +159,9 @@ fn next_of(machine: &Machine) -> Option<Event> {
 /// What the driver steps first.
 fn first_of(alloc: Global, text: &[u8]) -> Result<Option<Event>, Fail> {
     let machine = begun(alloc, text)?;
-    Ok(next_of(&machine))
+    let first = next_of(&machine);
+    let_go(machine);
+    Ok(first)
 }
 
 /// A run by the driver from its beginning to its end, and by how much the driver says that the journal has grown.
@@ -175,30 +180,25 @@ fn owner(machine: &Machine) -> &MemDevice {
     }
 }
 
-/// Whether the journal has this many entries.
-fn has_grown(machine: &Machine, grown: u64) -> bool {
-    grown == machine.journal().len() as u64
+/// Whether the driver has nothing to do, and the journal has as many entries as it says that it has grown by.
+fn is_at_its_end(machine: &Machine, grown: u64) -> bool {
+    machine.finished() && next_of(machine).is_none() && grown == machine.journal().len() as u64
 }
 
-/// Whether a run is at its end, and nothing is next.
-fn is_at_its_end(machine: &Machine) -> bool {
-    machine.finished() && next_of(machine).is_none()
-}
-
-/// Whether it leaves what is expected.
+/// Whether a run leaves what is expected.
 fn leaves(machine: &Machine, run: &Run) -> bool {
     machine.phase() == run.phase
         && machine.history().len() == run.history
         && machine.reads() == run.reads
+        && are_filled(owner(machine), run.units)
 }
 
 /// Whether a run by the driver ends so.
 fn ends(alloc: Global, run: &Run) -> Result<bool, Fail> {
     let (machine, grown) = driven(alloc, run.text)?;
-    Ok(is_at_its_end(&machine)
-        && has_grown(&machine, grown)
-        && leaves(&machine, run)
-        && are_filled(owner(&machine), run.units))
+    let well = is_at_its_end(&machine, grown) && leaves(&machine, run);
+    let_go(machine);
+    Ok(well)
 }
 
 #[test]

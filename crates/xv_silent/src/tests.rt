@@ -100,6 +100,9 @@ fn finished_silent(alloc: Global, text: &[u8], rate: u32, seed: u32) -> Result<S
     Ok(machine)
 }
 
+/// Drops a migration, here alone: what goes with it is then proved once.
+fn let_go<T: UnitDevice>(_machine: Migration<T, T, MemWire>) {}
+
 /// The device that has the guests.
 fn owner<T: UnitDevice>(machine: &Migration<T, T, MemWire>) -> &T {
     if machine.phase() == Phase::Switched {
@@ -141,26 +144,34 @@ fn ending_of<T: UnitDevice>(
 /// What the run of a job leaves over devices that tell all.
 fn ending_where_told(alloc: Global, text: &[u8]) -> Result<Ending, Fail> {
     let machine = finished(alloc, text)?;
-    ending_of(alloc, &machine, owner(&machine))
+    let ending = ending_of(alloc, &machine, owner(&machine));
+    let_go(machine);
+    ending
 }
 
 /// What it leaves over devices that tell nothing, of whose calls none fails.
 fn ending_where_silent(alloc: Global, text: &[u8]) -> Result<Ending, Fail> {
     let machine = finished_silent(alloc, text, 0, 0)?;
-    ending_of(alloc, &machine, inner_owner(&machine))
+    let ending = ending_of(alloc, &machine, inner_owner(&machine));
+    let_go(machine);
+    ending
 }
 
 /// What is seen of the run of a job over devices that tell nothing, of whose calls so many of 256 fail.
 fn run_silent(alloc: Global, text: &[u8], rate: u32, seed: u32) -> Result<Findings, Fail> {
     let first = first_image(alloc, text)?;
     let machine = finished_silent(alloc, text, rate, seed)?;
-    find(alloc, &machine, first)
+    let findings = find(alloc, &machine, first);
+    let_go(machine);
+    findings
 }
 
 /// What the source of a job holds at first.
 fn first_image(alloc: Global, text: &[u8]) -> Result<Vec<u8>, Fail> {
     let machine = begun(alloc, text)?;
-    image(alloc, machine.source())
+    let first = image(alloc, machine.source());
+    let_go(machine);
+    first
 }
 
 /// What is seen of a run whose source held this at first.

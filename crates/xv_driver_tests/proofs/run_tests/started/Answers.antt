@@ -2,11 +2,13 @@ use Rattle.xv_driver_tests.proofs.run_tests.started.Goals as goal
 
 pub start-requires : goal.start-requires
 start-requires c =
+    let devices = c.in_ok-source.ensures in
+    let wires = c.in_ok-wires.ensures in
     record {
-      source = c.in_ok-make_devices.ensures.source_fits;
-      first = c.in_ok-make_devices.ensures.source_begins;
-      dest = c.in_ok-make_devices.ensures.dest_fits;
-      streams = c.in_ok-both_ways.ensures.each_stream;
-      wires = c.in_ok-both_ways.ensures.wires;
-      back = c.in_ok-both_ways.ensures.back;
+      source = devices.source_fits;
+      first = devices.source_begins;
+      dest = devices.dest_fits;
+      streams = wires.each_stream;
+      wires = wires.wires;
+      back = wires.back;
     }
