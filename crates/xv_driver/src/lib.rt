@@ -9,8 +9,6 @@ mod finding;
 mod finishing;
 mod laws;
 mod order;
-#[cfg(test)]
-mod tests;
 
 pub use finding::next;
 pub use finishing::finish;

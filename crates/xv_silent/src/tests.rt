@@ -86,6 +86,23 @@ fn begun_silent(alloc: Global, text: &[u8], rate: u32, seed: u32) -> Result<Sile
     }
 }
 
+/// The migration of a job over devices that tell all, run to its end.
+fn finished(alloc: Global, text: &[u8]) -> Result<Machine, Fail> {
+    let mut machine = begun(alloc, text)?;
+    let _ = finish(&mut machine);
+    Ok(machine)
+}
+
+/// The same over devices that tell nothing, of each of whose calls so many of 256 fail.
+fn finished_silent(alloc: Global, text: &[u8], rate: u32, seed: u32) -> Result<SilentMachine, Fail> {
+    let mut machine = begun_silent(alloc, text, rate, seed)?;
+    let _ = finish(&mut machine);
+    Ok(machine)
+}
+
+/// Drops a migration, here alone: what goes with it is then proved once.
+fn let_go<T: UnitDevice>(_machine: Migration<T, T, MemWire>) {}
+
 /// The device that has the guests.
 fn owner<T: UnitDevice>(machine: &Migration<T, T, MemWire>) -> &T {
     if machine.phase() == Phase::Switched {
@@ -93,6 +110,11 @@ fn owner<T: UnitDevice>(machine: &Migration<T, T, MemWire>) -> &T {
     } else {
         machine.source()
     }
+}
+
+/// The device in memory behind the one that has the guests.
+fn inner_owner(machine: &SilentMachine) -> &MemDevice {
+    owner(machine).device()
 }
 
 /// The contents of all units of a device, one after another.
@@ -121,30 +143,35 @@ fn ending_of<T: UnitDevice>(
 
 /// What the run of a job leaves over devices that tell all.
 fn ending_where_told(alloc: Global, text: &[u8]) -> Result<Ending, Fail> {
-    let mut machine = begun(alloc, text)?;
-    let _ = finish(&mut machine);
-    ending_of(alloc, &machine, owner(&machine))
+    let machine = finished(alloc, text)?;
+    let ending = ending_of(alloc, &machine, owner(&machine));
+    let_go(machine);
+    ending
 }
 
 /// What it leaves over devices that tell nothing, of whose calls none fails.
 fn ending_where_silent(alloc: Global, text: &[u8]) -> Result<Ending, Fail> {
-    let mut machine = begun_silent(alloc, text, 0, 0)?;
-    let _ = finish(&mut machine);
-    ending_of(alloc, &machine, owner(&machine).device())
+    let machine = finished_silent(alloc, text, 0, 0)?;
+    let ending = ending_of(alloc, &machine, inner_owner(&machine));
+    let_go(machine);
+    ending
 }
 
 /// What is seen of the run of a job over devices that tell nothing, of whose calls so many of 256 fail.
 fn run_silent(alloc: Global, text: &[u8], rate: u32, seed: u32) -> Result<Findings, Fail> {
     let first = first_image(alloc, text)?;
-    let mut machine = begun_silent(alloc, text, rate, seed)?;
-    let _ = finish(&mut machine);
-    find(alloc, &machine, first)
+    let machine = finished_silent(alloc, text, rate, seed)?;
+    let findings = find(alloc, &machine, first);
+    let_go(machine);
+    findings
 }
 
 /// What the source of a job holds at first.
 fn first_image(alloc: Global, text: &[u8]) -> Result<Vec<u8>, Fail> {
     let machine = begun(alloc, text)?;
-    image(alloc, machine.source())
+    let first = image(alloc, machine.source());
+    let_go(machine);
+    first
 }
 
 /// What is seen of a run whose source held this at first.
@@ -154,7 +181,7 @@ fn find(alloc: Global, machine: &SilentMachine, first: Vec<u8>) -> Result<Findin
     Ok(Findings {
         tells_faults: tells_faults(machine),
         ends: ends(machine),
-        agrees: image(alloc, owner(machine).device())? == plain,
+        agrees: image(alloc, inner_owner(machine))? == plain,
     })
 }
 

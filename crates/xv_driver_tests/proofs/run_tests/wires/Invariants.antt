@@ -3,7 +3,7 @@ use Rattle.std.specs.Prelude.{All}
 use Rattle.xv_wire.specs.Memory.{told}
 use Rattle.xv_job.specs.Written.{job_of}
 use Rattle.xv_core.specs.Beginning.{IsWireFor, stream_room}
-use Rattle.xv_driver.proofs.tests.wires.Given as goal
+use Rattle.xv_driver_tests.proofs.run_tests.wires.Given as goal
 
 abbrev pub invariant-loop-stream : goal.invariant-loop-stream
 invariant-loop-stream l = record {

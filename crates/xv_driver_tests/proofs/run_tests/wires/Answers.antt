@@ -5,7 +5,7 @@ use Rattle.std.proofs.lemmas.List.Elements.{All-push}
 use Rattle.xv_wire.specs.Memory.{Pipe, told}
 use Rattle.xv_job.specs.Written.{job_of}
 use Rattle.xv_core.specs.Beginning.{IsWireFor, stream_room}
-use Rattle.xv_driver.proofs.tests.wires.Goals as goal
+use Rattle.xv_driver_tests.proofs.run_tests.wires.Goals as goal
 
 pub loop-stream-preserved : goal.loop-stream-preserved
 loop-stream-preserved c =

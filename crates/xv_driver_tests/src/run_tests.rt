@@ -1,20 +1,19 @@
-ghost use Rattle.std.specs.Prelude.{◌≡◌, ◌<◌, ℕ, length, get_or, All, IfOk};
-ghost use Rattle.xv_base.specs.Units.{units};
-ghost use Rattle.xv_device.specs.Memory.{fresh, told as told_device, no_init};
+//! Runs by the driver to their ends.
+
+ghost use Rattle.std.specs.Prelude.{◌≡◌, length, All, IfOk};
 ghost use Rattle.xv_wire.specs.Memory.{told as told_wire};
 ghost use Rattle.xv_job.specs.Written.{job_of};
-ghost use Rattle.xv_core.specs.Beginning.{IsDeviceFor, IsWireFor, stream_room, back_room};
+ghost use Rattle.xv_core.specs.Beginning.{IsWireFor, stream_room, back_room};
 
-use crate::{finish, next};
 use std::alloc::Global;
 use std::test::Fail;
-use xv_base::{Event, Init, NoMemory, Phase, UnitId};
+use xv_base::{Event, NoMemory, Phase, UnitId};
 use xv_core::{Migration, Parts};
-use xv_device::{DevicePlan, MemDevice};
+use xv_device::MemDevice;
+use xv_driver::{finish, next};
 use xv_job::{Job, read_job};
+use xv_parts::{Machine, make_devices};
 use xv_wire::{MemWire, WirePlan};
-
-type Machine = Migration<MemDevice, MemDevice, MemWire>;
 
 /// The greatest credit and the greatest unit that these tests have wires for.
 const CREDIT: u32 = 4;
@@ -25,12 +24,11 @@ const BYTES: u32 = 16;
 const FIRST_PATH: &[u8] =
     b"job 1\npages 1 16\ndisk 2 16\nstreams 1\ncredit 4\noutbox 4\nregion 1\nrounds 1\ndirty 0\nguest\nend\n";
 
-/// A job, the writes of the destination that fail, and how its run by the driver ends: the phase, the length of the history,
-/// the bytes that the guests have read, and the byte that fills each unit at its owner.
+/// A job, and how its run by the driver ends: the phase, the length of the history, the bytes that the guests have read, and
+/// the byte that fills each unit at its owner.
 #[derive(Clone, Copy)]
 struct Run {
     text: &'static [u8],
-    fails: &'static [u32],
     phase: Phase,
     history: u32,
     reads: &'static [u8],
@@ -41,7 +39,6 @@ struct Run {
 const RUNS: &[Run] = &[
     Run {
         text: b"job 1\npages 1 16\ndisk 2 16\nstreams 1\ncredit 4\noutbox 4\nregion 1\nrounds 1\ndirty 0\ninit 0 a5\ninit 2 5a\nguest\nend\n",
-        fails: &[],
         phase: Phase::Switched,
         history: 0,
         reads: b"",
@@ -49,7 +46,6 @@ const RUNS: &[Run] = &[
     },
     Run {
         text: b"job 1\npages 1 16\ndisk 2 16\nstreams 2\ncredit 2\noutbox 2\nregion 2\nrounds 1\ndirty 0\nguest\nwr 0 1 1 bb\nrd 0 1 2 3\nguest\nst 0 16 cc\nend\n",
-        fails: &[],
         phase: Phase::Switched,
         history: 3,
         reads: b"\xbb\xbb\xbb",
@@ -57,44 +53,19 @@ const RUNS: &[Run] = &[
     },
     Run {
         text: b"job 1\npages 1 16\ndisk 2 16\nstreams 1\ncredit 4\noutbox 4\nregion 1\nrounds 1\ndirty 0\ncancel 1\nguest\nwr 0 0 2 bb\nend\n",
-        fails: &[],
         phase: Phase::Cancelled,
         history: 2,
         reads: b"",
         units: [0, 0xbb, 0xbb],
     },
     Run {
-        text: b"job 1\npages 1 16\ndisk 2 16\nstreams 1\ncredit 4\noutbox 4\nregion 1\nrounds 1\ndirty 0\ninit 0 a5\nguest\nwr 0 0 1 bb\nend\n",
-        fails: &[1],
+        text: b"job 1\npages 1 16\ndisk 2 16\nstreams 1\ncredit 4\noutbox 4\nregion 1\nrounds 1\ndirty 0\nfault dwrite 1\ninit 0 a5\nguest\nwr 0 0 1 bb\nend\n",
         phase: Phase::Failed,
         history: 1,
         reads: b"",
         units: [0xa5, 0xbb, 0],
     },
 ];
-
-/// A plan by which the writes of these numbers fail.
-fn plan(alloc: Global, writes: &[u32]) -> Result<DevicePlan, Fail> {
-    let mut fails = Vec::new(alloc);
-    fails.extend_from_slice(writes)?;
-    Ok(DevicePlan {
-        reads: Vec::new(alloc),
-        writes: fails,
-        flushes: Vec::new(alloc),
-    })
-}
-
-/// A device over the job's units, which begin so.
-fn device(alloc: Global, job: &Job, init: &[Init], plan: DevicePlan) -> Result<MemDevice, Fail>
-    requires { (i : ℕ) → i < length init.now → (get_or init.now i no_init).unit.0 < units job.now.shape }
-    ensures fresh { IfOk result (λ device. device ≡ fresh job.now.shape init.now plan) }
-    ensures fits { IfOk result (λ device. IsDeviceFor (job_of job.now) (told_device device)) }
-{
-    let device = MemDevice::new(alloc, &job.layout, init, plan)?;
-    // That each unit's content has the unit's size is told with the layout.
-    let _ = device.layout();
-    Ok(device)
-}
 
 /// A wire with room for the whole credit, of which no call fails.
 fn wire(alloc: Global, job: &Job) -> Result<MemWire, Fail>
@@ -123,16 +94,29 @@ fn wires(alloc: Global, job: &Job) -> Result<Vec<MemWire>, Fail>
     Ok(wires)
 }
 
-/// A migration of the job that a text says, over devices and wires in memory; the destination's writes of these numbers fail.
-fn begun(alloc: Global, text: &[u8], fails: &[u32]) -> Result<Machine, Fail> {
-    let Ok((job, _place)) = read_job(alloc, text) else {
-        return Err(Fail::new("no job"));
-    };
-    let _ = job.operations();
-    let source = device(alloc, &job, &job.init, plan(alloc, &[])?)?;
-    let dest = device(alloc, &job, &[], plan(alloc, fails)?)?;
-    let wires = wires(alloc, &job)?;
-    let back = wire(alloc, &job)?;
+/// The same, and the wire back.
+fn both_ways(alloc: Global, job: &Job) -> Result<(Vec<MemWire>, MemWire), Fail>
+    ensures each_stream { IfOk result (λ made. length made.0.items ≡ job.now.config.streams) }
+    ensures wires { IfOk result (λ made. All (λ w. IsWireFor (stream_room (job_of job.now)) (told_wire w)) made.0.items) }
+    ensures back { IfOk result (λ made. IsWireFor (back_room (job_of job.now)) (told_wire made.1)) }
+{
+    let wires = wires(alloc, job)?;
+    let back = wire(alloc, job)?;
+    Ok((wires, back))
+}
+
+/// A migration of the job that a text says, over devices and wires in memory.
+fn begun(alloc: Global, text: &[u8]) -> Result<Machine, Fail> {
+    match read_job(alloc, text) {
+        Ok((job, _place)) => started(alloc, job),
+        Err(_) => Err(Fail::new("no job")),
+    }
+}
+
+/// A migration of this job.
+fn started(alloc: Global, job: Job) -> Result<Machine, Fail> {
+    let (source, dest) = make_devices(alloc, &job)?;
+    let (wires, back) = both_ways(alloc, &job)?;
     let parts = Parts {
         job,
         source,
@@ -164,30 +148,62 @@ fn are_filled(device: &MemDevice, bytes: [u8; 3]) -> bool {
     true
 }
 
-/// Whether a run by the driver ends so.
-fn ends(alloc: Global, run: &Run) -> Result<bool, Fail> {
-    let mut machine = begun(alloc, run.text, run.fails)?;
+/// Drops a migration, here alone: what goes with it is then proved once.
+fn let_go(_machine: Machine) {}
+
+/// What the driver steps next.
+fn next_of(machine: &Machine) -> Option<Event> {
+    next(machine)
+}
+
+/// What the driver steps first.
+fn first_of(alloc: Global, text: &[u8]) -> Result<Option<Event>, Fail> {
+    let machine = begun(alloc, text)?;
+    let first = next_of(&machine);
+    let_go(machine);
+    Ok(first)
+}
+
+/// A run by the driver from its beginning to its end, and by how much the driver says that the journal has grown.
+fn driven(alloc: Global, text: &[u8]) -> Result<(Machine, u64), Fail> {
+    let mut machine = begun(alloc, text)?;
     let grown = finish(&mut machine);
-    let owner = if machine.phase() == Phase::Switched {
+    Ok((machine, grown))
+}
+
+/// The device that has the guests.
+fn owner(machine: &Machine) -> &MemDevice {
+    if machine.phase() == Phase::Switched {
         machine.dest()
     } else {
         machine.source()
-    };
-    Ok(
-        machine.finished()
-            && next(&machine).is_none()
-            && grown == machine.journal().len() as u64
-            && machine.phase() == run.phase
-            && machine.history().len() == run.history
-            && machine.reads() == run.reads
-            && are_filled(owner, run.units),
-    )
+    }
+}
+
+/// Whether the driver has nothing to do, and the journal has as many entries as it says that it has grown by.
+fn is_at_its_end(machine: &Machine, grown: u64) -> bool {
+    machine.finished() && next_of(machine).is_none() && grown == machine.journal().len() as u64
+}
+
+/// Whether a run leaves what is expected.
+fn leaves(machine: &Machine, run: &Run) -> bool {
+    machine.phase() == run.phase
+        && machine.history().len() == run.history
+        && machine.reads() == run.reads
+        && are_filled(owner(machine), run.units)
+}
+
+/// Whether a run by the driver ends so.
+fn ends(alloc: Global, run: &Run) -> Result<bool, Fail> {
+    let (machine, grown) = driven(alloc, run.text)?;
+    let well = is_at_its_end(&machine, grown) && leaves(&machine, run);
+    let_go(machine);
+    Ok(well)
 }
 
 #[test]
 fn begins_with_the_disk(rt: HostRuntime) -> Result<(), Fail> {
-    let machine = begun(rt.alloc(), FIRST_PATH, &[])?;
-    assert_eq!(rt; next(&machine), Some(Event::Begin(0)));
+    assert_eq!(rt; first_of(rt.alloc(), FIRST_PATH)?, Some(Event::Begin(0)));
     Ok(())
 }
 
