@@ -5,6 +5,8 @@
 program=$(cd "$(dirname "$0")/.." && pwd)/crates/xvm/out/xvm
 number=${1:-7}
 work=$(mktemp -d)
+trap 'rm -rf "$work"' EXIT
+trap 'exit 130' HUP INT TERM
 instructions() {
     valgrind --tool=callgrind --callgrind-out-file="$work/calls" "$program" "$@" < "$work/job" 2> "$work/log" > "$work/out" || exit 1
     awk '/Collected/ { print $NF }' "$work/log"
@@ -12,7 +14,7 @@ instructions() {
 milliseconds() {
     for _ in 1 2 3 4 5; do
         start=$(date +%s%N)
-        taskset -c 0,1 "$program" "$@" < "$work/job" > "$work/out" || exit 1
+        taskset -c 0,1 "$program" "$@" < "$work/job" > "$work/out" || : > "$work/failed"
         end=$(date +%s%N)
         echo $(((end - start) / 1000000))
     done | sort -n | head -n 1
@@ -23,7 +25,7 @@ ran=$(instructions run) || exit 1
 workers=$(grep -c '^worker ' "$work/out")
 driven_time=$(milliseconds drive "$number")
 ran_time=$(milliseconds run)
-rm -rf "$work"
+[ ! -e "$work/failed" ] || exit 1
 echo "drive $number: $driven instructions, $driven_time ms"
 echo "run of gen $number, $workers workers: $ran instructions, $ran_time ms"
 awk "BEGIN { printf \"ratio of instructions %.2f, of time %.2f\\n\", $ran / $driven, $ran_time / $driven_time }"
