@@ -94,14 +94,19 @@ fn finished(alloc: Global, text: &[u8]) -> Result<Machine, Fail> {
 }
 
 /// The same over devices that tell nothing, of each of whose calls so many of 256 fail.
-fn finished_silent(alloc: Global, text: &[u8], rate: u32, seed: u32) -> Result<SilentMachine, Fail> {
+fn finished_silent(
+    alloc: Global,
+    text: &[u8],
+    rate: u32,
+    seed: u32,
+) -> Result<SilentMachine, Fail> {
     let mut machine = begun_silent(alloc, text, rate, seed)?;
     let _ = finish(&mut machine);
     Ok(machine)
 }
 
 /// Drops a migration, here alone: what goes with it is then proved once.
-fn let_go<T: UnitDevice>(_machine: Migration<T, T, MemWire>) {}
+fn let_go<T: UnitDevice + Drop>(_machine: Migration<T, T, MemWire>) {}
 
 /// The device that has the guests.
 fn owner<T: UnitDevice>(machine: &Migration<T, T, MemWire>) -> &T {
