@@ -1,4 +1,5 @@
-// The state that the workers of a migration share: the migration under one lock, and for each worker a pass.
+// The state that the workers of a migration share: the migration under one lock, for each worker a pass, and the workers
+// themselves.
 //
 // Contracts see the lock's value as what is seen of its migration, a pass as its numbers, and a `Shared` as the identity of
 // its words of progress. Four ledgers, `D`, `Q`, `F` and `R`, count entries of the journal: those of guests' events that
@@ -15,8 +16,12 @@
 // - `Shared::guest` answers `TraceEnd` exactly where the pass has nothing left, and then takes no lock; every call moves the
 //   pass by its answer, and the answer is one of a migration of the origin (`WasAnswered`, `WasTold`).
 // - A call that may wait for the lock takes the runtime.
-// - `Shared::close` takes a crew that has all passes, and gives the migration of the origin with all that every migration keeps, and the sums over the passes are
-//   the numbers of its entries (`sums`, `entries`); together the journal's length.
+// - `run_workers` takes a whole crew and leaves one: each pass is of the same worker, with at most four times the bound of the
+//   journal in further calls, and a guest's has nothing left to begin, or just as many further calls, or a number of calls that
+//   can rise no more (`HaveRun`). What the workers leave undone is for a driver. That each runs on a thread of its own, and
+//   where none can be started on the caller's, no clause says; nor what a `Gate` is told, which may hold up each call of a worker.
+// - `Shared::close` takes a crew that has all passes, and gives the migration of the origin with all that every migration
+//   keeps. The sums over the passes are the numbers of its entries (`sums`, `entries`), and together the journal's length.
 // - `Shared::fits` and `Shared::bound` tell of the origin's job without the lock.
 #![tactic(auto)]
 
