@@ -1,11 +1,15 @@
 -- What of the half stays as it was over a call, for those who know of no migration that it is part of.
-use Rattle.std.specs.Prelude.{◌≡◌, ℕ, zero, suc, ◌==◌, Bool, false, List, length, map, replicate, Option, Some, None}
-use Rattle.std.proofs.Common.{refl, ap, ◌∙◌, inl, inr, arith}
+use Rattle.std.specs.Prelude.{◌≡◌, ◌<◌, ℕ, zero, suc, ◌==◌, Bool, false, List, length, map, replicate, Option, Some, None}
+use Rattle.std.proofs.Common.{refl, sym, subst, ap, ◌∙◌, inl, inr, arith}
 use Rattle.std.proofs.lemmas.Bool.{cases_Bool}
-use Rattle.std.proofs.lemmas.List.{length-set, length-map}
-use Rattle.xv_base.specs.Units.{Shape}
+use Rattle.std.proofs.lemmas.List.{length-set, length-map, length-replicate}
+use Rattle.xv_base.specs.Units.{Shape, units}
+use Rattle.xv_base.specs.declared.limits.Config.{Config}
 use Rattle.xv_base.specs.declared.unit.DiskShape.{DiskShape}
-use Rattle.xv_base.specs.declared.event.Event.TheVariants.{Begin, Read, Round}
+use Rattle.xv_base.specs.declared.operation.Ended.{Ended}
+use Rattle.xv_base.specs.declared.operation.Outcome.TheVariants.{Done}
+use Rattle.xv_base.specs.declared.event.Event.TheVariants.{Begin, Read, Advance, Round}
+use Rattle.xv_device.specs.Told.{Told}
 use Rattle.xv_model.specs.Job.{Job}
 use Rattle.xv_model.specs.View.{View, number, no_disk}
 use Rattle.xv_model.specs.Wait.{Why, wait}
@@ -14,6 +18,8 @@ use Rattle.xv_model.specs.Step.{view_by, step, is_flagged}
 use Rattle.xv_source.specs.Half.{Source, IsSourceOf}
 use Rattle.xv_source.specs.Step.{Allows, StepsSource, HasFewVersions}
 use Rattle.xv_source.specs.Waits.{plain_job, plain_view}
+use Rattle.xv_source.specs.Limits.{fresh}
+use Rattle.xv_engine_tests.specs.Uncopied.{IsUncopied}
 
 -- a job of the half's limits; the half is the source's part of it and of a view in which only its own numbers are
 abbrev own_job : Bool → Source → Job
@@ -46,6 +52,10 @@ round-view : (o : Option Why) (job : Job) (v : View) → (length (view_by o fals
 round-view None job v = (refl, refl)
 round-view (Some why) job v = (refl, refl)
 
+advance-disks : (o : Option Why) (job : Job) (v : View) (d : ℕ) → length (view_by o false job v (Advance d)).disks ≡ length v.disks
+advance-disks None job v d = length-set v.disks d _
+advance-disks (Some why) job v d = refl
+
 pub begin-stays : (d : ℕ) (t : Turn) (old new : Source) → ((job : Job) (v : View) → Allows job v (Begin d) old → StepsSource job v (Begin d) t old new) → StaysAs old new
 begin-stays d t old new steps =
     let s = steps (own_job false old) (plain_view old) (record { of = of-itself false old; lets = refl }) in
@@ -64,6 +74,20 @@ read-stays d t old new steps =
       | inr unflagged ↦
           let v = read-view (wait (own_job false old) (plain_view old) (Read d) false) (own_job false old) (plain_view old) d in
           stays-by false old new (step (own_job false old) (plain_view old) (Read d) false) (s.part unflagged) v.0 v.1
+    ]
+
+-- of an advance the half is told only how long the history is
+abbrev view_of_length : ℕ → Source → View
+view_of_length n h = record (plain_view h) { history = replicate n (record { guest = record { 0 = 0 }; outcome = Done }) }
+
+pub advance-keeps-disks : (d n : ℕ) (t : Turn) (old new : Source) → ((job : Job) (v : View) → Allows job v (Advance d) old → length v.history ≡ n → StepsSource job v (Advance d) t old new) → length new.disks ≡ length old.disks
+advance-keeps-disks d n t old new steps =
+    let job = own_job false old in
+    let v = view_of_length n old in
+    let s = steps job v (record { of = record { limits = refl; part = refl }; lets = refl }) (length-replicate n _) in
+    elim (cases_Bool (is_flagged t)) [
+      | inl flagged ↦ ap (λ (w : View). length w.disks) (s.failed flagged).part
+      | inr unflagged ↦ ap (λ (w : View). length w.disks) (s.part unflagged).part ∙ advance-disks (wait job v (Advance d) false) job v d
     ]
 
 pub round-stays : (t : Turn) (old new : Source) → ((job : Job) (v : View) → Allows job v Round old → false ≡ (job.format == 2) → StepsSource job v Round t old new) → StaysAs old new
@@ -85,6 +109,21 @@ none-made (suc n) (suc unit) = none-made n unit
 pub few-none : (h : Source) (n : ℕ) → h.issued ≡ replicate n 0 → HasFewVersions h
 few-none h n none = λ unit. omega (arith, ap (λ (ns : List ℕ). number ns unit) none, none-made n unit)
 
--- that a disk of a half that began over a layout is there
-pub disk-there : (h : Source) (s : Shape) (n : ℕ) → length h.disks ≡ length (map (λ (d : DiskShape). no_disk) s.disks) → length s.disks ≡ n → length h.disks ≡ n
-disk-there h s n same is = same ∙ length-map s.disks (λ (d : DiskShape). no_disk) ∙ is
+-- a half that stays so is one of which nothing is copied still
+pub stays-uncopied : (s : Shape) (old new : Source) → IsUncopied s old → StaysAs old new → IsUncopied s new
+stays-uncopied s old new is stays = record {
+  shape = stays.shape ∙ is.shape;
+  disks = stays.disks ∙ is.disks;
+  issued = stays.issued ∙ is.issued;
+}
+
+pub unit-of : (s : Shape) (h : Source) (unit : ℕ) → IsUncopied s h → unit < units s → unit < units h.shape
+unit-of s h unit is there = subst (λ (x : Shape). unit < units x) (sym is.shape) there
+
+-- that each disk of a half that began over a layout has its copy
+pub fresh-uncopied : (s : Shape) (config : Config) (told : Told) (faults : ℕ) (h : Source) → h ≡ fresh s config told faults → IsUncopied s h
+fresh-uncopied s config told faults h is = record {
+  shape = ap (λ (x : Source). x.shape) is;
+  disks = ap (λ (x : Source). length x.disks) is ∙ length-map s.disks (λ (d : DiskShape). no_disk);
+  issued = ap (λ (x : Source). x.issued) is;
+}

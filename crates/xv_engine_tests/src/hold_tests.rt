@@ -12,15 +12,20 @@ fn names_the_first_next_version(rt: HostRuntime) -> Result<(), Fail> {
     hold.arrive(head(1, 2), b"bbbbbbbbbbbbbbbb");
     hold.arrive(head(2, 1), b"cccccccccccccccc");
     hold.arrive(head(1, 1), b"aaaaaaaaaaaaaaaa");
-    assert_eq!(rt; hold.count(UnitId(1)), 2);
-    for (want, content) in [
-        (head(2, 1), b"cccccccccccccccc"),
-        (head(1, 1), b"aaaaaaaaaaaaaaaa"),
-        (head(1, 2), b"bbbbbbbbbbbbbbbb"),
-    ] {
-        assert_eq!(rt; write_next(&mut hold, content), Some(want));
-    }
-    assert_eq!(rt; hold.ready(), None);
+    let count = hold.count(UnitId(1));
+    let written = [
+        write_next(&mut hold, b"cccccccccccccccc"),
+        write_next(&mut hold, b"aaaaaaaaaaaaaaaa"),
+        write_next(&mut hold, b"bbbbbbbbbbbbbbbb"),
+    ];
+    let left = hold.ready();
+    drop(hold);
+    assert_eq!(rt; count, 2);
+    assert_eq!(rt;
+        written,
+        [Some(head(2, 1)), Some(head(1, 1)), Some(head(1, 2))]
+    );
+    assert_eq!(rt; left, None);
     Ok(())
 }
 
@@ -30,14 +35,18 @@ fn names_an_earlier_message_that_became_next(rt: HostRuntime) -> Result<(), Fail
     hold.arrive(head(1, 1), b"aaaaaaaaaaaaaaaa");
     hold.arrive(head(1, 2), b"bbbbbbbbbbbbbbbb");
     hold.arrive(head(2, 1), b"cccccccccccccccc");
-    for (want, content) in [
-        (head(1, 1), b"aaaaaaaaaaaaaaaa"),
-        (head(1, 2), b"bbbbbbbbbbbbbbbb"),
-        (head(2, 1), b"cccccccccccccccc"),
-    ] {
-        assert_eq!(rt; write_next(&mut hold, content), Some(want));
-    }
-    assert_eq!(rt; hold.ready(), None);
+    let written = [
+        write_next(&mut hold, b"aaaaaaaaaaaaaaaa"),
+        write_next(&mut hold, b"bbbbbbbbbbbbbbbb"),
+        write_next(&mut hold, b"cccccccccccccccc"),
+    ];
+    let left = hold.ready();
+    drop(hold);
+    assert_eq!(rt;
+        written,
+        [Some(head(1, 1)), Some(head(1, 2)), Some(head(2, 1))]
+    );
+    assert_eq!(rt; left, None);
     Ok(())
 }
 

@@ -41,7 +41,10 @@ pub fn half_over(alloc: Global) -> Result<SourceHalf<MemDevice>, Fail>
     let device = MemDevice::new(alloc, &layout, &[], plan)?;
     match SourceHalf::new(alloc, &layout, &CONFIG, 1, device) {
         Ok(half) => Ok(half),
-        Err(_) => Err(Fail::from(NoMemory)),
+        Err(device) => {
+            drop(device);
+            Err(Fail::from(NoMemory))
+        }
     }
 }
 
@@ -66,59 +69,72 @@ fn write(unit: u32, byte: u8) -> UnitOp
 
 #[test]
 fn writes_ahead(rt: HostRuntime) -> Result<(), Fail> {
-    let alloc = rt.alloc();
-    let mut half = half_over(alloc)?;
+    let mut half = half_over(rt.alloc())?;
     let mut into = [0; 64];
     let op = write(4, 0xaa);
-    assert_eq!(rt; half.guest_waits(GuestId(0), &op), None);
-    assert_eq!(rt; half.guest(GuestId(0), &op, 0, &mut into), done(0, 0));
-    assert_eq!(rt; half.issued(UnitId(4)), 0);
-    assert_eq!(rt; half.device().content(UnitId(4)), [0xaa; 16].as_slice());
+    let waits = half.guest_waits(GuestId(0), &op);
+    let turns = [half.guest(GuestId(0), &op, 0, &mut into)];
+    let issued = half.issued(UnitId(4));
+    let is_written = half.device().content(UnitId(4)) == [0xaa; 16].as_slice();
+    drop(half);
+    assert_eq!(rt; waits, None);
+    assert_eq!(rt; turns, [done(0, 0)]);
+    assert_eq!(rt; issued, 0);
+    assert!(rt; is_written);
     Ok(())
 }
 
 #[test]
 fn mirrors_a_write_behind(rt: HostRuntime) -> Result<(), Fail> {
-    let alloc = rt.alloc();
-    let mut half = half_over(alloc)?;
+    let mut half = half_over(rt.alloc())?;
     let mut into = [0; 64];
     let op = write(1, 0xbb);
-    assert_eq!(rt; half.begin(0), done(1, 0));
-    assert_eq!(rt; half.read(0), done(1, 0));
-    assert_eq!(rt; half.advance(0, 0), done(1, 0));
-    assert_eq!(rt; half.guest(GuestId(0), &op, 0, &mut into), done(0, 0));
-    assert_eq!(rt; half.outbox(UnitId(1)), 2);
+    let turns = [
+        half.begin(0),
+        half.read(0),
+        half.advance(0, 0),
+        half.guest(GuestId(0), &op, 0, &mut into),
+    ];
+    let messages = half.outbox(UnitId(1));
+    drop(half);
+    assert_eq!(rt; turns, [done(1, 0), done(1, 0), done(1, 0), done(0, 0)]);
+    assert_eq!(rt; messages, 2);
     Ok(())
 }
 
 #[test]
 fn queues_a_write_inside(rt: HostRuntime) -> Result<(), Fail> {
-    let alloc = rt.alloc();
-    let mut half = half_over(alloc)?;
+    let mut half = half_over(rt.alloc())?;
     let mut into = [0; 64];
     let op = write(1, 0xcc);
-    assert_eq!(rt; half.begin(0), done(1, 0));
-    assert_eq!(rt; half.guest(GuestId(0), &op, 0, &mut into), Turn::Queued);
-    assert_eq!(rt; half.release(0, &op, 0), Turn::Wait(Why::NotNow));
+    let turns = [
+        half.begin(0),
+        half.guest(GuestId(0), &op, 0, &mut into),
+        half.release(0, &op, 0),
+    ];
+    drop(half);
+    assert_eq!(rt; turns, [done(1, 0), Turn::Queued, Turn::Wait(Why::NotNow)]);
     Ok(())
 }
 
 #[test]
 fn releases_a_write_alone(rt: HostRuntime) -> Result<(), Fail> {
-    let alloc = rt.alloc();
-    let mut half = half_over(alloc)?;
+    let mut half = half_over(rt.alloc())?;
     let mut into = [0; 64];
     let op = write(1, 0xee);
-    assert_eq!(rt; half.begin(0), done(1, 0));
-    assert_eq!(rt; half.guest(GuestId(0), &op, 0, &mut into), Turn::Queued);
-    assert_eq!(rt; half.release_alone(0, &op), done(0, 0));
+    let turns = [
+        half.begin(0),
+        half.guest(GuestId(0), &op, 0, &mut into),
+        half.release_alone(0, &op),
+    ];
+    drop(half);
+    assert_eq!(rt; turns, [done(1, 0), Turn::Queued, done(0, 0)]);
     Ok(())
 }
 
 #[test]
 fn reads_alone(rt: HostRuntime) -> Result<(), Fail> {
-    let alloc = rt.alloc();
-    let mut half = half_over(alloc)?;
+    let mut half = half_over(rt.alloc())?;
     let mut into = [1; 64];
     let op = UnitOp {
         unit: UnitId(0),
@@ -126,22 +142,31 @@ fn reads_alone(rt: HostRuntime) -> Result<(), Fail> {
         len: 4,
         write: None,
     };
-    assert_eq!(rt; half.guest_alone(&op, &mut into), done(4, 0));
+    let turns = [half.guest_alone(&op, &mut into)];
+    drop(half);
+    assert_eq!(rt; turns, [done(4, 0)]);
     assert_eq!(rt; &into[..5], [0, 0, 0, 0, 1].as_slice());
     Ok(())
 }
 
 #[test]
 fn releases_a_write_behind(rt: HostRuntime) -> Result<(), Fail> {
-    let alloc = rt.alloc();
-    let mut half = half_over(alloc)?;
+    let mut half = half_over(rt.alloc())?;
     let mut into = [0; 64];
     let op = write(1, 0xcc);
-    assert_eq!(rt; half.begin(0), done(1, 0));
-    assert_eq!(rt; half.guest(GuestId(0), &op, 0, &mut into), Turn::Queued);
-    assert_eq!(rt; half.read(0), done(1, 0));
-    assert_eq!(rt; half.advance(0, 0), done(1, 0));
-    assert_eq!(rt; half.release(0, &op, 0), done(0, 0));
-    assert_eq!(rt; half.outbox(UnitId(1)), 2);
+    let turns = [
+        half.begin(0),
+        half.guest(GuestId(0), &op, 0, &mut into),
+        half.read(0),
+        half.advance(0, 0),
+        half.release(0, &op, 0),
+    ];
+    let messages = half.outbox(UnitId(1));
+    drop(half);
+    assert_eq!(rt;
+        turns,
+        [done(1, 0), Turn::Queued, done(1, 0), done(1, 0), done(0, 0)]
+    );
+    assert_eq!(rt; messages, 2);
     Ok(())
 }

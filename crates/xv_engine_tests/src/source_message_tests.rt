@@ -38,8 +38,30 @@ fn one_stream(alloc: Global, format: u8) -> Result<Streams<MemWire>, Fail>
     let wires = vec![in alloc; wire(alloc)?]?;
     match Streams::new(alloc, wires, layout, format) {
         Ok(streams) => Ok(streams),
-        Err(_) => Err(Fail::from(NoMemory)),
+        Err(wires) => {
+            drop(wires);
+            Err(Fail::from(NoMemory))
+        }
     }
+}
+
+/// Sends the first block on a stream.
+fn send_first(alloc: Global, most: u32, streams: &mut Streams<MemWire>) -> Result<Turn, Fail>
+    requires shape { streams.old.shape ≡ shape_of 1 16 (DISK ∷ []) }
+    requires most { IsMost streams.old.format most }
+    requires making { streams.old.making ≡ [] }
+    requires one { length streams.old.lanes ≡ 1 }
+    requires groups { (lane streams.old 0).groups ≡ [] }
+    requires capacity { (lane streams.old 0).wire.capacity ≡ 960 }
+    requires countable { IfSome (lane streams.old 0).wire.counted (λ c. c.puts < 2 ^ 63) }
+{
+    let mut half = half_over(alloc)?;
+    let _ = half.begin(0);
+    let _ = half.read(0);
+    let _ = half.advance(0, 0);
+    let sent = half.send(0, most, streams);
+    drop(half);
+    Ok(sent)
 }
 
 /// Sends the first block on a stream of a format.
@@ -47,11 +69,9 @@ fn send_block(alloc: Global, format: u8, most: u32) -> Result<Turn, Fail>
     requires { IsMost format most }
 {
     let mut streams = one_stream(alloc, format)?;
-    let mut half = half_over(alloc)?;
-    let _ = half.begin(0);
-    let _ = half.read(0);
-    let _ = half.advance(0, 0);
-    Ok(half.send(0, most, &mut streams))
+    let sent = send_first(alloc, most, &mut streams);
+    drop(streams);
+    sent
 }
 
 #[test]

@@ -1,10 +1,11 @@
 ghost use Rattle.std.specs.Prelude.{◌≡◌, ◌+◌, ◌*◌, ◌<◌, ◌≤◌, ◌^◌, [], length, drop, IfOk, IfSome, None};
 ghost use Rattle.xv_base.specs.Units.{shape_of};
 ghost use Rattle.xv_streams.specs.Streamed.{lane, OnlyLane};
+ghost use Rattle.xv_engine_tests.specs.Single.{IsSingle, IsEmptyLane};
 
 use std::alloc::Global;
 use std::test::Fail;
-use xv_base::{Failed, Layout, UnitHead, UnitId};
+use xv_base::{Failed, Layout, NoMemory, UnitHead, UnitId};
 use xv_streams::{BackWire, Streams};
 use xv_wire::{MemWire, Wire, WirePlan};
 
@@ -82,26 +83,81 @@ fn third_fails(alloc: Global) -> ThirdFails
     }
 }
 
+/// What `receive` answers.
+type Taken = Result<Option<UnitHead>, Failed>;
+
+/// Takes a message off the one stream, and copies its content.
+fn take<W: Wire>(streams: &mut Streams<W>, content: &mut [u8]) -> Taken
+    requires single { IsSingle streams.old }
+    requires room { length content.old ≡ 16 }
+    ensures single { IsSingle streams.new }
+    ensures room { length content.new ≡ 16 }
+{
+    streams.receive(0, content)
+}
+
+/// How many messages are on the one stream.
+fn waiting<W: Wire>(streams: &Streams<W>) -> u32
+    requires { IsSingle streams.now }
+{
+    streams.waiting(0)
+}
+
+/// Sends a message on the one stream, on which nothing is.
+fn send<W: Wire>(streams: &mut Streams<W>) -> Result<(), Failed>
+    requires single { IsSingle streams.old }
+    requires empty { IsEmptyLane (lane streams.old 0) }
+    ensures { IsSingle streams.new }
+{
+    streams.send(0, HEAD, b"0123456789abcdef")
+}
+
+/// The one stream of format 1 over a wire of which the first take fails.
+fn single(alloc: Global, piece: u32) -> Result<Streams<MemWire>, Fail>
+    ensures single { IfOk result (λ streams. IsSingle streams) }
+    ensures empty { IfOk result (λ streams. IsEmptyLane (lane streams 0)) }
+{
+    let layout = Layout::new(3, 16, &[])?;
+    let wires = vec![in alloc; wire(alloc, piece, 1)?]?;
+    match Streams::new(alloc, wires, layout, 1) {
+        Ok(streams) => Ok(streams),
+        Err(wires) => {
+            drop(wires);
+            Err(Fail::from(NoMemory))
+        }
+    }
+}
+
+/// What a stream tells of itself once a message has passed.
+fn told(streams: Streams<MemWire>) -> (u8, usize)
+    requires { IsSingle streams }
+{
+    let format = streams.format();
+    let wires = streams.into_wires();
+    let count = wires.len();
+    drop(wires);
+    (format, count)
+}
+
 #[test]
 fn passes_in_any_pieces(rt: HostRuntime) -> Result<(), Fail> {
-    let alloc = rt.alloc();
     for piece in [1, 23, 24, 25, 700] {
-        let layout = Layout::new(3, 16, &[])?;
-        let wires = vec![in alloc; wire(alloc, piece, 1)?]?;
-        if let Ok(mut streams) = Streams::new(alloc, wires, layout, 1) {
-            assert_eq!(rt; streams.send(0, HEAD, b"0123456789abcdef"), Ok(()));
-            assert_eq!(rt; streams.waiting(0), 1);
-            let mut into = [0; 16];
-            assert_eq!(rt; streams.receive(0, &mut into), Err(Failed));
-            assert_eq!(rt; streams.waiting(0), 1);
-            assert_eq!(rt; streams.receive(0, &mut into), Ok(Some(HEAD)));
-            assert_eq!(rt; into.as_slice(), b"0123456789abcdef".as_slice());
-            assert_eq!(rt; streams.receive(0, &mut into), Ok(None));
-            assert_eq!(rt; streams.format(), 1);
-            assert_eq!(rt; streams.into_wires().len(), 1);
-        } else {
-            assert!(rt; false);
-        }
+        let mut streams = single(rt.alloc(), piece)?;
+        let mut content = [0; 16];
+        let sent = send(&mut streams);
+        let waits = waiting(&streams);
+        let failed = take(&mut streams, &mut content);
+        let left = waiting(&streams);
+        let taken = take(&mut streams, &mut content);
+        let none = take(&mut streams, &mut content);
+        let told = told(streams);
+        assert_eq!(rt; (sent, waits, left), (Ok(()), 1, 1));
+        assert_eq!(rt;
+            (failed, taken, none),
+            (Err(Failed), Ok(Some(HEAD)), Ok(None))
+        );
+        assert_eq!(rt; content, *b"0123456789abcdef");
+        assert_eq!(rt; told, (1, 1));
     }
     Ok(())
 }
@@ -138,9 +194,7 @@ fn send_some<W: Wire>(
     requires some { 1 ≤ count }
     requires few { count ≤ 16 }
     requires small { first ≤ 16 }
-    requires empty { (lane streams.old stream).wire.transit ≡ [] }
-    requires room { 960 ≤ (lane streams.old stream).wire.capacity }
-    requires countable { IfSome (lane streams.old stream).wire.counted (λ c. c.puts < 2 ^ 63) }
+    requires empty { IsEmptyLane (lane streams.old stream) }
     ensures { OnlyLane stream streams.old streams.new }
 {
     for i in 0..count {
@@ -179,66 +233,115 @@ fn are_got<W: Wire>(streams: &Streams<W>, first: u32, count: u32) -> bool
     all
 }
 
+/// Two streams of format 2; of the second the first take fails.
+fn pair(alloc: Global, piece: u32) -> Result<Streams<MemWire>, Fail>
+    ensures lanes { IfOk result (λ streams. length streams.lanes ≡ 2) }
+    ensures format { IfOk result (λ streams. streams.format ≡ 2) }
+    ensures shape { IfOk result (λ streams. streams.shape ≡ shape_of 3 16 []) }
+    ensures none { IfOk result (λ streams. streams.making ≡ []) }
+    ensures first { IfOk result (λ streams. IsEmptyLane (lane streams 0)) }
+    ensures second { IfOk result (λ streams. IsEmptyLane (lane streams 1)) }
+{
+    let layout = Layout::new(3, 16, &[])?;
+    let wires = vec![in alloc; wire(alloc, piece, 0)?, wire(alloc, piece, 1)?]?;
+    match Streams::new(alloc, wires, layout, 2) {
+        Ok(streams) => Ok(streams),
+        Err(wires) => {
+            drop(wires);
+            Err(Fail::from(NoMemory))
+        }
+    }
+}
+
+/// Takes the groups of a pair of streams, of `count` messages and of two; whether each was there, the first stream then was
+/// empty, and the first take of the second failed.
+fn gives_both(streams: &mut Streams<MemWire>, count: u32) -> [bool; 4]
+    requires lanes { length streams.old.lanes ≡ 2 }
+    requires format { streams.old.format ≡ 2 }
+    requires few { count ≤ 16 }
+    ensures { length streams.new.lanes ≡ 2 }
+{
+    let first = gives_some(streams, 0, 0, count);
+    let none = gives_some(streams, 0, 0, 0);
+    let failed = streams.receive_group(1) == Err(Failed);
+    [first, none, failed, gives_some(streams, 1, 16, 2)]
+}
+
 #[test]
 fn passes_groups_in_any_pieces(rt: HostRuntime) -> Result<(), Fail> {
-    let alloc = rt.alloc();
     for (piece, count) in [(1, 2), (23, 1), (24, 16), (25, 3), (700, 16)] {
         assert!(rt; 1 <= count && count <= 16);
-        let layout = Layout::new(3, 16, &[])?;
-        let wires = vec![in alloc; wire(alloc, piece, 0)?, wire(alloc, piece, 1)?]?;
-        if let Ok(mut streams) = Streams::new(alloc, wires, layout, 2) {
-            assert_eq!(rt; send_some(&mut streams, 0, 0, count), Ok(()), "of {count}");
-            assert_eq!(rt; send_some(&mut streams, 1, 16, 2), Ok(()));
-            assert_eq!(rt; streams.waiting(0), 1);
-            assert!(rt;
-                gives_some(&mut streams, 0, 0, count),
-                "in pieces of {piece}"
-            );
-            assert!(rt; gives_some(&mut streams, 0, 0, 0));
-            assert_eq!(rt; streams.receive_group(1), Err(Failed));
-            assert!(rt; gives_some(&mut streams, 1, 16, 2));
-            assert_eq!(rt; streams.waiting(1), 0);
-        } else {
-            assert!(rt; false);
-        }
+        let mut streams = pair(rt.alloc(), piece)?;
+        let first = send_some(&mut streams, 0, 0, count);
+        let second = send_some(&mut streams, 1, 16, 2);
+        let before = streams.waiting(0);
+        let given = gives_both(&mut streams, count);
+        let after = streams.waiting(1);
+        drop(streams);
+        assert_eq!(rt; [first, second], [Ok(()), Ok(())], "of {count}");
+        assert_eq!(rt; [before, after], [1, 0]);
+        assert_eq!(rt; given, [true; 4], "in pieces of {piece}");
     }
     Ok(())
 }
 
-#[test]
-fn goes_on_after_a_failed_take(rt: HostRuntime) -> Result<(), Fail> {
-    let alloc = rt.alloc();
+/// One stream of a format over a wire whose third take fails.
+fn third_stream(alloc: Global, format: u8) -> Result<Streams<ThirdFails>, Fail>
+    requires { (1 ≤ format) × (format ≤ 2) }
+    ensures lanes { IfOk result (λ streams. length streams.lanes ≡ 1) }
+    ensures format { IfOk result (λ streams. streams.format ≡ format) }
+    ensures shape { IfOk result (λ streams. streams.shape ≡ shape_of 3 16 []) }
+    ensures none { IfOk result (λ streams. streams.making ≡ []) }
+    ensures empty { IfOk result (λ streams. IsEmptyLane (lane streams 0)) }
+{
     let layout = Layout::new(3, 16, &[])?;
     let wires = vec![in alloc; third_fails(alloc)]?;
-    if let Ok(mut streams) = Streams::new(alloc, wires, layout, 1) {
-        assert_eq!(rt; streams.send(0, HEAD, b"0123456789abcdef"), Ok(()));
-        let mut into = [0; 16];
-        assert_eq!(rt; streams.receive(0, &mut into), Err(Failed));
-        assert_eq!(rt; streams.receive(0, &mut into), Ok(Some(HEAD)));
-        assert_eq!(rt; into.as_slice(), b"0123456789abcdef".as_slice());
-    } else {
-        assert!(rt; false);
+    match Streams::new(alloc, wires, layout, format) {
+        Ok(streams) => Ok(streams),
+        Err(wires) => {
+            drop(wires);
+            Err(Fail::from(NoMemory))
+        }
     }
-    let wires = vec![in alloc; third_fails(alloc)]?;
-    if let Ok(mut streams) = Streams::new(alloc, wires, layout, 2) {
-        assert_eq!(rt; send_some(&mut streams, 0, 0, 2), Ok(()));
-        assert_eq!(rt; streams.receive_group(0), Err(Failed));
-        assert!(rt; gives_some(&mut streams, 0, 0, 2));
-    } else {
-        assert!(rt; false);
-    }
+}
+
+#[test]
+fn goes_on_after_a_failed_take(rt: HostRuntime) -> Result<(), Fail> {
+    let mut streams = third_stream(rt.alloc(), 1)?;
+    let mut content = [0; 16];
+    let sent = send(&mut streams);
+    let failed = take(&mut streams, &mut content);
+    let taken = take(&mut streams, &mut content);
+    drop(streams);
+    assert_eq!(rt; sent, Ok(()));
+    assert_eq!(rt; [failed, taken], [Err(Failed), Ok(Some(HEAD))]);
+    assert_eq!(rt; content, *b"0123456789abcdef");
+    Ok(())
+}
+
+#[test]
+fn goes_on_with_a_group_after_a_failed_take(rt: HostRuntime) -> Result<(), Fail> {
+    let mut streams = third_stream(rt.alloc(), 2)?;
+    let sent = send_some(&mut streams, 0, 0, 2);
+    let failed = streams.receive_group(0);
+    let is_given = gives_some(&mut streams, 0, 0, 2);
+    drop(streams);
+    assert_eq!(rt; sent, Ok(()));
+    assert_eq!(rt; failed, Err(Failed));
+    assert!(rt; is_given);
     Ok(())
 }
 
 #[test]
 fn passes_acknowledgements_back(rt: HostRuntime) -> Result<(), Fail> {
     let mut back = BackWire::new(wire(rt.alloc(), 10, 1)?);
-    assert_eq!(rt; back.put_ack(258), Ok(()));
-    assert_eq!(rt; back.waiting(), 1);
-    assert_eq!(rt; back.take_ack(), Err(Failed));
-    assert_eq!(rt; back.take_ack(), Ok(Some(258)));
-    assert_eq!(rt; back.take_ack(), Ok(None));
-    assert_eq!(rt; back.waiting(), 0);
-    let _ = back.into_wire();
+    let put = back.put_ack(258);
+    let before = back.waiting();
+    let taken = [back.take_ack(), back.take_ack(), back.take_ack()];
+    let after = back.waiting();
+    drop(back.into_wire());
+    assert_eq!(rt; put, Ok(()));
+    assert_eq!(rt; taken, [Err(Failed), Ok(Some(258)), Ok(None)]);
+    assert_eq!(rt; [before, after], [1, 0]);
     Ok(())
 }

@@ -1,11 +1,11 @@
 //! The hold beside a list that is scanned.
 
-ghost use Rattle.std.specs.Prelude.{◌≡◌, ◌<◌, ◌+◌, ◌^◌, length, count_by, position, IfOk};
+ghost use Rattle.std.specs.Prelude.{◌≡◌, ◌<◌, ◌+◌, ◌^◌, [], length, replicate, count_by, position, IfOk};
 ghost use Rattle.std.specs.List.{position_or_len};
 ghost use Rattle.xv_hold.specs.Messages.{is_version, is_next};
 ghost use Rattle.xv_engine_tests.specs.Beside.{IsBeside};
 
-use std::alloc::AllocError;
+use std::alloc::{AllocError, Global};
 use std::test::Fail;
 use xv_base::{Layout, UnitHead, UnitId};
 use xv_hold::Hold;
@@ -108,15 +108,27 @@ fn agree(hold: &mut Hold, scan: &mut Scan, calls: u32) -> Result<bool, AllocErro
     Ok(true)
 }
 
+/// Whether a hold and a scan that begin with nothing named the same each time.
+fn agreed(scan: &mut Scan, alloc: Global) -> Result<bool, Fail>
+    requires held { scan.old.held.items ≡ [] }
+    requires written { scan.old.written.items ≡ replicate 4 0 }
+{
+    let mut hold = Hold::new(alloc, 16, &Layout::new(4, 16, &[])?)?;
+    let agreed = agree(&mut hold, scan, 10_000);
+    drop(hold);
+    Ok(agreed?)
+}
+
 #[test]
 fn agrees_with_a_scan(rt: HostRuntime) -> Result<(), Fail> {
-    let alloc = rt.alloc();
-    let mut hold = Hold::new(alloc, 16, &Layout::new(4, 16, &[])?)?;
     let mut scan = Scan {
-        held: Vec::new(alloc),
-        written: Vec::from_elem(alloc, 0, 4)?,
+        held: Vec::new(rt.alloc()),
+        written: Vec::from_elem(rt.alloc(), 0, 4)?,
     };
-    assert_eq!(rt; agree(&mut hold, &mut scan, 10_000)?, true);
-    assert_eq!(rt; scan.written.iter().all(|version| *version > 100), true);
+    let agreed = agreed(&mut scan, rt.alloc());
+    let is_long = scan.written.iter().all(|version| *version > 100);
+    drop(scan);
+    assert_eq!(rt; agreed?, true);
+    assert!(rt; is_long);
     Ok(())
 }

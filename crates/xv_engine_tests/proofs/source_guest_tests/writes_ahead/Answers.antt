@@ -7,8 +7,8 @@ use Rattle.xv_source.specs.Step.{operation_call}
 use Rattle.xv_engine_tests.proofs.Standing.{machine, small, limits, over, starts, few-at, room-at, disks-at, shape-at, stands-called, legal-over, unit-over}
 use Rattle.xv_engine_tests.proofs.source_guest_tests.writes_ahead.Goals as goal
 
-pub guest_waits-requires : goal.guest_waits-requires
-guest_waits-requires g c =
+pub guest_waits-waits-requires : goal.guest_waits-waits-requires
+guest_waits-waits-requires g c =
     let e = c.in_ok-half.ensures in
     let at = starts small limits ((over 4 170 ∷ []) ∷ []) c.in_ok-half.half e.half e.laid e.written e.counted in
     unit-over 4 170 c.in_ok-half.half.shape c.write-op.result (shape-at _ _ _ _ _ at) c.write-op.ensures (lit< tt)
@@ -37,8 +37,8 @@ guest-requires-clause-countable g c =
     let at = starts small limits ((over 4 170 ∷ []) ∷ []) c.in_ok-half.half e.half e.laid e.written e.counted in
     room-at _ _ _ _ _ at refl (lit< tt) (lit< tt) (lit< tt)
 
-pub issued-requires : goal.issued-requires
-issued-requires g c =
+pub issued-issued-requires : goal.issued-issued-requires
+issued-issued-requires g c =
     let e = c.in_ok-half.ensures in
     let traces = (over 4 170 ∷ []) ∷ [] in
     let J = machine small limits traces in
