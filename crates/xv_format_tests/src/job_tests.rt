@@ -230,33 +230,40 @@ fn refuses_the_first_fault(rt: HostRuntime) {
     }
 }
 
-/// What is wrong with a job in which a line stands so many times, and this behind it.
-fn fault_of_many(
+/// A job's text in which a line stands so many times, and this behind it.
+fn text_of_many(
     alloc: Global,
     line_again: &str,
     times: u32,
     last: &str,
-) -> Result<Option<TextError>, AllocError> {
+) -> Result<Vec<u8>, AllocError> {
     let mut text = text_with(alloc, 10, 11, "")?;
     for _ in 0..times {
         text.extend_from_slice(line_again.as_bytes())?;
     }
     text.extend_from_slice(last.as_bytes())?;
     text.extend_from_slice(b"end\n")?;
-    Ok(read_job(alloc, &text).err())
+    Ok(text)
+}
+
+/// What is wrong with such a text.
+fn fault_of_many(alloc: Global, line_again: &str, times: u32, last: &str) -> Option<TextError> {
+    match text_of_many(alloc, line_again, times, last) {
+        Ok(text) => read_job(alloc, &text).err(),
+        Err(_) => Some(TextError::NoMemory),
+    }
 }
 
 #[test]
-fn counts_faults_and_guests(rt: HostRuntime) -> Result<(), Fail> {
+fn counts_faults_and_guests(rt: HostRuntime) {
     for &(line_again, times, last, line, why) in REPEATED {
         let want = (line > 0).then_some(TextError::Fault(LineFault { line, why }));
         assert_eq!(rt;
-            fault_of_many(rt.alloc(), line_again, times, last)?,
+            fault_of_many(rt.alloc(), line_again, times, last),
             want,
             "of {times} times {line_again}"
         );
     }
-    Ok(())
 }
 
 /// The job of a text, and where it ends.
@@ -264,12 +271,23 @@ fn job_of(alloc: Global, text: &[u8]) -> Result<(Job, Place), TextError> {
     read_job(alloc, text)
 }
 
-/// A text's job as it is printed, and at which byte of the text it ends.
-pub fn printed_back(alloc: Global, text: &[u8]) -> Result<(Vec<u8>, usize), Fail> {
+/// Whether a text is that of its job as it is printed, and ends with it.
+pub fn is_printed_back(alloc: Global, text: &[u8]) -> Result<bool, Fail> {
     let (job, place) = job_of(alloc, text)?;
     let mut printed = Vec::new(alloc);
     print_job(alloc, &job, &mut printed)?;
-    Ok((printed, place.byte))
+    Ok(printed.as_slice() == text && place.byte == text.len())
+}
+
+/// The format and the group, and how many first contents, guests and unit operations there are.
+fn numbers_of(job: &Job) -> (u8, u32, usize, u8, u32) {
+    (
+        job.format,
+        job.group,
+        job.init.len(),
+        job.guests(),
+        job.operations(),
+    )
 }
 
 #[test]
@@ -284,27 +302,31 @@ fn reads_every_line(rt: HostRuntime) -> Result<(), Fail> {
         dirty: 1,
         cancel: Some(5),
     };
-    assert_eq!(rt; (job.format, job.group), (2, 3));
+    assert_eq!(rt; numbers_of(&job), (2, 3, 2, 2, 5));
     assert_eq!(rt; job.config, config);
     assert_eq!(rt;
         job.faults.as_slice(),
         [Fault::SourceRead(9), Fault::Put(1, 2)].as_slice()
     );
-    assert_eq!(rt; job.init.len(), 2);
-    assert_eq!(rt; job.guests(), 2);
-    assert_eq!(rt; job.operations(), 5);
     Ok(())
 }
 
 #[test]
 fn prints_what_it_reads(rt: HostRuntime) -> Result<(), Fail> {
     let old = text_with(rt.alloc(), 10, 10, "guest\nwr 0 1 2 aabb\nrd 0 7 15 1\n")?;
-    for &text in &[old.as_slice(), WHOLE.as_bytes()] {
-        let (printed, byte) = printed_back(rt.alloc(), text)?;
-        assert_eq!(rt; printed.as_slice(), text);
-        assert_eq!(rt; byte, text.len());
-    }
+    assert!(rt; is_printed_back(rt.alloc(), &old)?);
+    assert!(rt; is_printed_back(rt.alloc(), WHOLE.as_bytes())?);
     Ok(())
+}
+
+/// The unit of the first guest's second unit operation.
+fn second_unit(job: &Job) -> Option<UnitId> {
+    let guest = GuestId(0);
+    if job.guests() > 0 && job.operations_of(guest) > 1 {
+        Some(job.unit_op(guest, 1).unit)
+    } else {
+        None
+    }
 }
 
 #[test]
@@ -321,6 +343,6 @@ fn tells_what_follows_a_job(rt: HostRuntime) -> Result<(), Fail> {
     );
     assert_eq!(rt; job.traces.len(), 1);
     assert_eq!(rt; job.operations(), 2);
-    assert_eq!(rt; job.unit_op(GuestId(0), 1).unit, UnitId(6));
+    assert_eq!(rt; second_unit(&job), Some(UnitId(6)));
     Ok(())
 }

@@ -104,6 +104,16 @@ fn sink_of(alloc: Global, room: u32, piece: u32) -> Result<MemSink, Fail>
     Ok(MemSink::new(alloc, room, piece, &[])?)
 }
 
+/// Whether an output has taken exactly this text.
+fn has_taken(sink: &MemSink, text: &[u8]) -> bool {
+    sink.bytes() == text
+}
+
+/// Whether an output has taken exactly these two texts.
+fn has_taken_both(sink: &MemSink, first: &[u8], second: &[u8]) -> bool {
+    sink.bytes().strip_prefix(first) == Some(second)
+}
+
 fn put_report(counts: Option<&Counts>, sink: &mut MemSink) -> Result<(), WriteFault> {
     write_report(&SWITCHED, counts, sink)
 }
@@ -127,7 +137,7 @@ fn writes_report(rt: HostRuntime) -> Result<(), Fail> {
     ] {
         let mut sink = sink_of(rt.alloc(), room, 4)?;
         assert_eq!(rt; put_report(None, &mut sink), want);
-        assert_eq!(rt; sink.bytes(), text);
+        assert!(rt; has_taken(&sink, text));
     }
     Ok(())
 }
@@ -137,7 +147,7 @@ fn writes_counts(rt: HostRuntime) -> Result<(), Fail> {
     let counts = crew(rt.alloc())?;
     let mut sink = sink_of(rt.alloc(), 400, 7)?;
     assert_eq!(rt; put_report(Some(&counts), &mut sink), Ok(()));
-    assert_eq!(rt; sink.bytes().strip_prefix(REPORT), Some(WORKERS));
+    assert!(rt; has_taken_both(&sink, REPORT, WORKERS));
     Ok(())
 }
 
@@ -145,7 +155,7 @@ fn writes_counts(rt: HostRuntime) -> Result<(), Fail> {
 fn writes_json_of_an_idle_migration(rt: HostRuntime) -> Result<(), Fail> {
     let mut sink = sink_of(rt.alloc(), 400, 9)?;
     assert_eq!(rt; put_idle_json(rt.alloc(), &mut sink), Ok(()));
-    assert_eq!(rt; sink.bytes(), IDLE_JSON);
+    assert!(rt; has_taken(&sink, IDLE_JSON));
     Ok(())
 }
 
@@ -157,7 +167,7 @@ fn writes_json(rt: HostRuntime) -> Result<(), Fail> {
     ] {
         let mut sink = sink_of(rt.alloc(), room, 4)?;
         assert_eq!(rt; put_crew_json(rt.alloc(), &mut sink), want);
-        assert_eq!(rt; sink.bytes(), text);
+        assert!(rt; has_taken(&sink, text));
     }
     Ok(())
 }
@@ -210,7 +220,7 @@ fn filled(alloc: Global, layout: &Layout, unit: u32, byte: u8) -> Result<MemDevi
 }
 
 /// The image of a source, and of a destination of which unit 2 is filled with 13.
-fn put_image(
+fn put_sides(
     alloc: Global,
     layout: &Layout,
     source: &MemDevice,
@@ -223,13 +233,20 @@ fn put_image(
     Ok(write_image(layout, source, &dest, sink)?)
 }
 
+/// The same image, where unit 1 of the source is filled with 187.
+fn put_image(alloc: Global, sink: &mut MemSink) -> Result<(), Fail> {
+    let layout = three_pages()?;
+    let source = filled(alloc, &layout, 1, 0xbb)?;
+    put_sides(alloc, &layout, &source, sink)
+}
+
+const IMAGE: &[u8] =
+    b"src 1 bbbbbbbbbbbbbbbbbbbbbbbbbbbbbbbb\ndst 2 0d0d0d0d0d0d0d0d0d0d0d0d0d0d0d0d\n";
+
 #[test]
 fn writes_image(rt: HostRuntime) -> Result<(), Fail> {
-    let layout = three_pages()?;
     let mut sink = sink_of(rt.alloc(), 100, 30)?;
-    let source = filled(rt.alloc(), &layout, 1, 0xbb)?;
-    put_image(rt.alloc(), &layout, &source, &mut sink)?;
-    let want = b"src 1 bbbbbbbbbbbbbbbbbbbbbbbbbbbbbbbb\ndst 2 0d0d0d0d0d0d0d0d0d0d0d0d0d0d0d0d\n";
-    assert_eq!(rt; sink.bytes(), want.as_slice());
+    put_image(rt.alloc(), &mut sink)?;
+    assert!(rt; has_taken(&sink, IMAGE));
     Ok(())
 }
