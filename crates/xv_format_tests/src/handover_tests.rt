@@ -3,7 +3,7 @@ ghost use Rattle.std.specs.Prelude.{◌≡◌};
 use std::alloc::Global;
 use std::test::Fail;
 use xv_handover::{
-    Keeper, KeptA, KeptB, Kind, MemKeeper, Message, NodeA, NodeB, Reply, Stage, World, WorldEvent,
+    Keeper, KeptA, KeptB, Kind, MemKeeper, Message, NodeA, NodeB, Reply, Stage, WorldEvent,
     play_world,
 };
 
@@ -23,12 +23,16 @@ fn word(kind: Kind, attempt: u32, number: u32) -> Message
     }
 }
 
-/// Plays the events after what stands in `out`, and tells whether the replies are these.
-fn plays(alloc: Global, events: &[WorldEvent], replies: &[Reply]) -> Result<(World, bool), Fail> {
+/// What both nodes keep after the events, where the replies are these; `out` has a reply already.
+fn kept_after(
+    alloc: Global,
+    events: &[WorldEvent],
+    replies: &[Reply],
+) -> Result<Option<(KeptA, KeptB)>, Fail> {
     let mut out = vec![in alloc; Reply::Failed]?;
     let world = play_world(alloc, events, &mut out)?;
     let same = out.len() == replies.len() + 1 && &out[1..] == replies;
-    Ok((world, same))
+    Ok(same.then_some((world.a, world.b)))
 }
 
 #[test]
@@ -61,24 +65,18 @@ fn hands_the_guest_over(rt: HostRuntime) -> Result<(), Fail> {
         DONE,
         DONE,
     ];
-    let (world, same) = plays(rt.alloc(), &events, &replies)?;
-    assert!(rt; same);
-    assert_eq!(rt;
-        world.a,
-        KeptA {
-            attempt: 1,
-            number: 1,
-            gone: true
-        }
-    );
-    assert_eq!(rt;
-        world.b,
-        KeptB {
-            stage: Stage::Owner,
-            attempt: 1,
-            number: 2
-        }
-    );
+    let a = KeptA {
+        attempt: 1,
+        number: 1,
+        gone: true,
+    };
+    let b = KeptB {
+        stage: Stage::Owner,
+        attempt: 1,
+        number: 2,
+    };
+    let kept = kept_after(rt.alloc(), &events, &replies)?;
+    assert_eq!(rt; kept, Some((a, b)));
     Ok(())
 }
 
@@ -116,25 +114,49 @@ fn ends_an_attempt_that_is_withdrawn(rt: HostRuntime) -> Result<(), Fail> {
         DONE,
         Reply::NotNow,
     ];
-    let (world, same) = plays(rt.alloc(), &events, &replies)?;
-    assert!(rt; same);
-    assert_eq!(rt;
-        world.a,
-        KeptA {
-            attempt: 2,
-            number: 2,
-            gone: false
-        }
-    );
-    assert_eq!(rt;
-        world.b,
-        KeptB {
-            stage: Stage::Prepared,
-            attempt: 2,
-            number: 1
-        }
-    );
+    let a = KeptA {
+        attempt: 2,
+        number: 2,
+        gone: false,
+    };
+    let b = KeptB {
+        stage: Stage::Prepared,
+        attempt: 2,
+        number: 1,
+    };
+    let kept = kept_after(rt.alloc(), &events, &replies)?;
+    assert_eq!(rt; kept, Some((a, b)));
     Ok(())
+}
+
+/// A call of node A.
+#[derive(Clone, Copy)]
+enum CallA {
+    Write,
+    Offer,
+    Withdraw,
+    Resend,
+    /// A `Ready` of this attempt and this number comes.
+    Receive(u32, u32),
+}
+
+fn node_a(alloc: Global, kept: KeptA, fails: &[u32]) -> Result<NodeA<MemKeeper<KeptA>>, Fail> {
+    Ok(NodeA::wake(MemKeeper::new(alloc, kept, fails)?))
+}
+
+fn call_a(a: &mut NodeA<MemKeeper<KeptA>>, call: CallA) -> Reply {
+    match call {
+        CallA::Write => a.write(),
+        CallA::Offer => a.offer(),
+        CallA::Withdraw => a.withdraw(),
+        CallA::Resend => a.resend(),
+        CallA::Receive(attempt, number) => a.receive(word(Kind::Ready, attempt, number)),
+    }
+}
+
+/// What node A keeps, whether an offer stands, and whether it has the guest.
+fn state_a(a: &NodeA<MemKeeper<KeptA>>) -> (KeptA, bool, bool) {
+    (a.kept(), a.offered(), a.owns())
 }
 
 // Each call is made twice: the first time its keeper fails.
@@ -145,91 +167,90 @@ fn node_a_is_as_it_was_where_its_keeper_fails(rt: HostRuntime) -> Result<(), Fai
         number: 0,
         gone: false,
     };
-    let mut a = NodeA::wake(MemKeeper::new(rt.alloc(), first, &[1, 3, 5])?);
-    assert_eq!(rt; a.write(), Reply::Failed);
-    assert_eq!(rt; a.kept(), first);
-    assert_eq!(rt; a.write(), DONE);
-
-    assert_eq!(rt; a.offer(), Reply::Failed);
-    assert_eq!(rt;
-        a.kept(),
-        KeptA {
-            attempt: 0,
-            number: 1,
-            gone: false
-        }
-    );
-    assert!(rt; !a.offered());
-    assert_eq!(rt; a.offer(), sent(Kind::Prepare, 1, 1));
-
-    let ready = word(Kind::Ready, 1, 1);
-    assert_eq!(rt; a.receive(ready), Reply::Failed);
-    assert_eq!(rt;
-        a.kept(),
-        KeptA {
-            attempt: 1,
-            number: 1,
-            gone: false
-        }
-    );
-    assert!(rt; a.offered() && a.owns());
-    assert_eq!(rt; a.receive(ready), sent(Kind::Commit, 1, 1));
-    assert!(rt; !a.offered() && !a.owns());
+    let cases = [
+        (CallA::Write, 0, 0, false, DONE),
+        (CallA::Offer, 0, 1, false, sent(Kind::Prepare, 1, 1)),
+        (CallA::Receive(1, 1), 1, 1, true, sent(Kind::Commit, 1, 1)),
+    ];
+    let mut a = node_a(rt.alloc(), first, &[1, 3, 5])?;
+    for &(call, attempt, number, offered, reply) in &cases {
+        let kept = KeptA {
+            attempt,
+            number,
+            gone: false,
+        };
+        assert_eq!(rt; call_a(&mut a, call), Reply::Failed);
+        assert_eq!(rt; state_a(&a), (kept, offered, true));
+        assert_eq!(rt; call_a(&mut a, call), reply);
+    }
+    let (kept, offered, owns) = state_a(&a);
+    assert!(rt; kept.gone && !offered && !owns);
     assert!(rt; a.into_keeper().kept().gone);
     Ok(())
 }
 
+/// A call of node B.
 #[derive(Clone, Copy)]
-enum Call {
-    Image,
+enum CallB {
+    Image(u32),
     Write,
-    Take(Kind, u32, u32),
+    Resend,
+    Prepare(u32, u32),
+    Commit(u32, u32),
+    Abort(u32, u32),
 }
 
-fn call_b(b: &mut NodeB<MemKeeper<KeptB>>, call: Call) -> Reply {
+fn node_b(alloc: Global, kept: KeptB, fails: &[u32]) -> Result<NodeB<MemKeeper<KeptB>>, Fail> {
+    Ok(NodeB::wake(MemKeeper::new(alloc, kept, fails)?))
+}
+
+fn call_b(b: &mut NodeB<MemKeeper<KeptB>>, call: CallB) -> Reply {
     match call {
-        Call::Image => b.image(5),
-        Call::Write => b.write(),
-        Call::Take(Kind::Ready, _, _) => b.resend(),
-        Call::Take(kind, attempt, number) => b.receive(word(kind, attempt, number)),
+        CallB::Image(number) => b.image(number),
+        CallB::Write => b.write(),
+        CallB::Resend => b.resend(),
+        CallB::Prepare(attempt, number) => b.receive(word(Kind::Prepare, attempt, number)),
+        CallB::Commit(attempt, number) => b.receive(word(Kind::Commit, attempt, number)),
+        CallB::Abort(attempt, number) => b.receive(word(Kind::Abort, attempt, number)),
     }
 }
 
+// Each call is made twice: the first time its keeper fails.
 #[test]
 fn node_b_is_as_it_was_where_its_keeper_fails(rt: HostRuntime) -> Result<(), Fail> {
-    let fails = [1, 3, 5, 7, 9, 11, 13, 15, 17];
     let first = KeptB {
         stage: Stage::Idle,
         attempt: 0,
         number: 0,
     };
-    let mut b = NodeB::wake(MemKeeper::new(rt.alloc(), first, &fails)?);
-    for (call, reply, stage, attempt) in [
-        (Call::Image, DONE, Stage::Idle, 0),
+    let cases = [
+        (CallB::Image(5), DONE, Stage::Idle, 0),
         (
-            Call::Take(Kind::Prepare, 1, 5),
+            CallB::Prepare(1, 5),
             sent(Kind::Ready, 1, 5),
             Stage::Prepared,
             1,
         ),
-        (Call::Take(Kind::Prepare, 2, 6), DONE, Stage::Idle, 1),
-        (Call::Take(Kind::Abort, 2, 0), DONE, Stage::Idle, 2),
+        (CallB::Prepare(2, 6), DONE, Stage::Idle, 1),
+        (CallB::Abort(2, 0), DONE, Stage::Idle, 2),
         (
-            Call::Take(Kind::Prepare, 3, 5),
+            CallB::Prepare(3, 5),
             sent(Kind::Ready, 3, 5),
             Stage::Prepared,
             3,
         ),
-        (Call::Take(Kind::Abort, 3, 0), DONE, Stage::Idle, 3),
+        (CallB::Abort(3, 0), DONE, Stage::Idle, 3),
         (
-            Call::Take(Kind::Prepare, 4, 5),
+            CallB::Prepare(4, 5),
             sent(Kind::Ready, 4, 5),
             Stage::Prepared,
             4,
         ),
-        (Call::Take(Kind::Commit, 4, 5), DONE, Stage::Owner, 4),
-        (Call::Write, DONE, Stage::Owner, 4),
-    ] {
+        (CallB::Commit(4, 5), DONE, Stage::Owner, 4),
+        (CallB::Write, DONE, Stage::Owner, 4),
+    ];
+    let mut b = node_b(rt.alloc(), first, &[1, 3, 5, 7, 9, 11, 13, 15, 17])?;
+    for &(call, reply, stage, attempt) in &cases {
         let before = b.kept();
         assert_eq!(rt; call_b(&mut b, call), Reply::Failed);
         assert_eq!(rt; b.kept(), before);
@@ -242,29 +263,31 @@ fn node_b_is_as_it_was_where_its_keeper_fails(rt: HostRuntime) -> Result<(), Fai
 }
 
 #[test]
-fn waits_at_the_greatest_number(rt: HostRuntime) -> Result<(), Fail> {
-    let full = u32::MAX;
+fn node_a_waits_at_the_greatest_number(rt: HostRuntime) -> Result<(), Fail> {
     let kept = KeptA {
-        attempt: full,
-        number: full,
+        attempt: u32::MAX,
+        number: u32::MAX,
         gone: false,
     };
-    let mut a = NodeA::wake(MemKeeper::new(rt.alloc(), kept, &[])?);
-    assert_eq!(rt; a.write(), Reply::NotNow);
-    assert_eq!(rt; a.offer(), Reply::NotNow);
-    assert_eq!(rt; a.withdraw(), Reply::NotNow);
-    assert_eq!(rt; a.resend(), Reply::NotNow);
+    let mut a = node_a(rt.alloc(), kept, &[])?;
+    for &call in &[CallA::Write, CallA::Offer, CallA::Withdraw, CallA::Resend] {
+        assert_eq!(rt; call_a(&mut a, call), Reply::NotNow);
+    }
     assert_eq!(rt; a.kept(), kept);
+    Ok(())
+}
 
+#[test]
+fn node_b_waits_at_the_greatest_number(rt: HostRuntime) -> Result<(), Fail> {
     let kept = KeptB {
         stage: Stage::Owner,
         attempt: 1,
-        number: full,
+        number: u32::MAX,
     };
-    let mut b = NodeB::wake(MemKeeper::new(rt.alloc(), kept, &[])?);
-    assert_eq!(rt; b.write(), Reply::NotNow);
-    assert_eq!(rt; b.image(1), Reply::NotNow);
-    assert_eq!(rt; b.resend(), Reply::NotNow);
+    let mut b = node_b(rt.alloc(), kept, &[])?;
+    for &call in &[CallB::Write, CallB::Image(1), CallB::Resend] {
+        assert_eq!(rt; call_b(&mut b, call), Reply::NotNow);
+    }
     assert_eq!(rt; b.kept(), kept);
     Ok(())
 }

@@ -8,49 +8,52 @@ use xv_handover::{
     read_world,
 };
 
+/// What is wrong with a script.
+fn fault_of(alloc: Global, text: &str) -> Option<TextError> {
+    read_world(alloc, text.as_bytes()).err()
+}
+
+/// Scripts that are refused, with the line and the reason.
+const REFUSED: &[(&str, u32, LineWhy)] = &[
+    ("", 1, LineWhy::Unended),
+    ("stop", 1, LineWhy::Unended),
+    ("offer\n", 2, LineWhy::Unended),
+    ("offer\nstop", 2, LineWhy::Unended),
+    ("offer\npass 01", 2, LineWhy::Unended),
+    ("stop\n\n", 2, LineWhy::Order),
+    ("stop\nstop\n", 2, LineWhy::Order),
+    ("offer\nstop\nx", 3, LineWhy::Order),
+    ("\n", 1, LineWhy::BadWord),
+    ("Offer\n", 1, LineWhy::BadWord),
+    ("offers\n", 1, LineWhy::BadWord),
+    ("receive a\n", 1, LineWhy::BadWord),
+    ("write\n", 1, LineWhy::BadWord),
+    ("write c\n", 1, LineWhy::BadWord),
+    ("write A\n", 1, LineWhy::BadWord),
+    ("write ab\n", 1, LineWhy::BadWord),
+    ("write a b\n", 1, LineWhy::BadWord),
+    ("write  a\n", 1, LineWhy::BadWord),
+    ("write a \n", 1, LineWhy::BadWord),
+    ("resend 0\n", 1, LineWhy::BadWord),
+    ("restart\n", 1, LineWhy::BadWord),
+    ("offer a\n", 1, LineWhy::BadWord),
+    ("withdraw 1\n", 1, LineWhy::BadWord),
+    ("stop a\n", 1, LineWhy::BadWord),
+    ("image\n", 1, LineWhy::BadWord),
+    ("image 1 x\n", 1, LineWhy::BadWord),
+    ("image a\n", 1, LineWhy::BadNumber),
+    ("image 01\n", 1, LineWhy::BadNumber),
+    ("image 4294967296\n", 1, LineWhy::BadNumber),
+    ("image 4294967295\npass 4294967296\n", 2, LineWhy::BadNumber),
+    ("pass 0\npass 00\n", 2, LineWhy::BadNumber),
+    ("pass -1\nx\n", 1, LineWhy::BadNumber),
+];
+
 #[test]
 fn refuses_scripts(rt: HostRuntime) {
-    let cases = [
-        ("", 1, LineWhy::Unended),
-        ("stop", 1, LineWhy::Unended),
-        ("offer\n", 2, LineWhy::Unended),
-        ("offer\nstop", 2, LineWhy::Unended),
-        ("offer\npass 01", 2, LineWhy::Unended),
-        ("stop\n\n", 2, LineWhy::Order),
-        ("stop\nstop\n", 2, LineWhy::Order),
-        ("offer\nstop\nx", 3, LineWhy::Order),
-        ("\n", 1, LineWhy::BadWord),
-        ("Offer\n", 1, LineWhy::BadWord),
-        ("offers\n", 1, LineWhy::BadWord),
-        ("receive a\n", 1, LineWhy::BadWord),
-        ("write\n", 1, LineWhy::BadWord),
-        ("write c\n", 1, LineWhy::BadWord),
-        ("write A\n", 1, LineWhy::BadWord),
-        ("write ab\n", 1, LineWhy::BadWord),
-        ("write a b\n", 1, LineWhy::BadWord),
-        ("write  a\n", 1, LineWhy::BadWord),
-        ("write a \n", 1, LineWhy::BadWord),
-        ("resend 0\n", 1, LineWhy::BadWord),
-        ("restart\n", 1, LineWhy::BadWord),
-        ("offer a\n", 1, LineWhy::BadWord),
-        ("withdraw 1\n", 1, LineWhy::BadWord),
-        ("stop a\n", 1, LineWhy::BadWord),
-        ("image\n", 1, LineWhy::BadWord),
-        ("image 1 x\n", 1, LineWhy::BadWord),
-        ("image a\n", 1, LineWhy::BadNumber),
-        ("image 01\n", 1, LineWhy::BadNumber),
-        ("image 4294967296\n", 1, LineWhy::BadNumber),
-        ("image 4294967295\npass 4294967296\n", 2, LineWhy::BadNumber),
-        ("pass 0\npass 00\n", 2, LineWhy::BadNumber),
-        ("pass -1\nx\n", 1, LineWhy::BadNumber),
-    ];
-    for (text, line, why) in cases {
-        match read_world(rt.alloc(), text.as_bytes()) {
-            Err(error) => {
-                assert_eq!(rt; error, TextError::Fault(LineFault { line, why }), "{text}")
-            }
-            Ok(_) => assert!(rt; false, "{text}"),
-        }
+    for &(text, line, why) in REFUSED {
+        let want = Some(TextError::Fault(LineFault { line, why }));
+        assert_eq!(rt; fault_of(rt.alloc(), text), want, "{text}");
     }
 }
 
@@ -64,36 +67,39 @@ fn offers(alloc: Global, count: u32, rest: &str) -> Result<Vec<u8>, AllocError> 
     Ok(text)
 }
 
-/// How many events a text has; none where it is refused by this reason at this line.
-fn count(alloc: Global, text: &[u8], line: u32, why: LineWhy) -> Option<Option<usize>> {
-    match read_world(alloc, text) {
+/// How many events such a text has; none where line 65537 is refused by this reason.
+fn count(alloc: Global, offers_before: u32, rest: &str, why: LineWhy) -> Option<Option<usize>> {
+    let Ok(text) = offers(alloc, offers_before, rest) else {
+        return None;
+    };
+    match read_world(alloc, &text) {
         Ok(events) => Some(Some(events.len())),
-        Err(TextError::Fault(fault)) if fault == (LineFault { line, why }) => Some(None),
+        Err(TextError::Fault(fault)) if fault == (LineFault { line: 65537, why }) => Some(None),
         Err(_) => None,
     }
 }
 
+/// So many offers and a text behind them: the reason why line 65537 is refused, or how many events are read.
+const LONG: &[(u32, &str, LineWhy, Option<usize>)] = &[
+    (65535, "stop\n", LineWhy::Limit(19), Some(65535)),
+    (65536, "stop\n", LineWhy::Limit(19), Some(65536)),
+    (65536, "offer\nstop\n", LineWhy::Limit(19), None),
+    (65536, "restart b\n", LineWhy::Limit(19), None),
+    (65536, "pass 01\n", LineWhy::BadNumber, None),
+    (65536, "write c\n", LineWhy::BadWord, None),
+    (65536, "offer", LineWhy::Unended, None),
+    (65536, "", LineWhy::Unended, None),
+];
+
 #[test]
-fn reads_65536_events_at_most(rt: HostRuntime) -> Result<(), Fail> {
-    let limit = LineWhy::Limit(19);
-    for (lines, rest, why, want) in [
-        (65535, "stop\n", limit, Some(65535)),
-        (65536, "stop\n", limit, Some(65536)),
-        (65536, "offer\nstop\n", limit, None),
-        (65536, "restart b\n", limit, None),
-        (65536, "pass 01\n", LineWhy::BadNumber, None),
-        (65536, "write c\n", LineWhy::BadWord, None),
-        (65536, "offer", LineWhy::Unended, None),
-        (65536, "", LineWhy::Unended, None),
-    ] {
-        let text = offers(rt.alloc(), lines, rest)?;
+fn reads_65536_events_at_most(rt: HostRuntime) {
+    for &(lines, rest, why, want) in LONG {
         assert_eq!(rt;
-            count(rt.alloc(), &text, 65537, why),
+            count(rt.alloc(), lines, rest, why),
             Some(want),
             "{lines} {rest}"
         );
     }
-    Ok(())
 }
 
 #[test]
@@ -164,7 +170,7 @@ fn prints_answers(rt: HostRuntime) {
             "pass 9 wait nothing-there\n",
         ),
     ];
-    for (event, reply, want) in cases {
+    for &(event, reply, want) in &cases {
         assert!(rt; !matches!(reply, Reply::Failed));
         let line = print_reply(event, reply);
         assert_eq!(rt; line.bytes(), want.as_bytes());
@@ -183,7 +189,7 @@ fn prints_both_nodes(rt: HostRuntime) {
         ),
         (true, false, Stage::Owner, "a gone 3 40\nb owner 2 1\n"),
     ];
-    for (gone, offered, stage, want) in cases {
+    for &(gone, offered, stage, want) in &cases {
         let world = World {
             a: KeptA {
                 attempt: 3,

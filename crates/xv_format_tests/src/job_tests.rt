@@ -3,7 +3,22 @@
 use std::alloc::{AllocError, Global};
 use std::test::Fail;
 use xv_base::{Config, Fault, GuestId, LineFault, LineWhy, TextError, UnitId};
-use xv_job::{Place, print_job, read_job};
+use xv_job::{Job, Place, print_job, read_job};
+
+/// The lines of a small job.
+const LINES: &[&str] = &[
+    "job 1",
+    "pages 4 16",
+    "disk 8 16",
+    "streams 1",
+    "credit 4",
+    "outbox 4",
+    "region 1",
+    "rounds 1",
+    "dirty 0",
+    "guest",
+    "end",
+];
 
 /// A job's text in which other lines stand in place of those from `first` to `last`, from 1.
 fn text_with(
@@ -12,21 +27,8 @@ fn text_with(
     last: usize,
     instead: &str,
 ) -> Result<Vec<u8>, AllocError> {
-    let lines = [
-        "job 1",
-        "pages 4 16",
-        "disk 8 16",
-        "streams 1",
-        "credit 4",
-        "outbox 4",
-        "region 1",
-        "rounds 1",
-        "dirty 0",
-        "guest",
-        "end",
-    ];
     let mut text = Vec::new(alloc);
-    for (i, line) in lines.iter().enumerate() {
+    for (i, line) in LINES.iter().enumerate() {
         let number = i + 1;
         if number == first {
             text.extend_from_slice(instead.as_bytes())?;
@@ -48,7 +50,7 @@ fn fault_of(alloc: Global, first: usize, last: usize, instead: &str) -> Option<T
 }
 
 /// Parts of a job's text that are read: the lines that they stand for, from the first to the last, and the part.
-const READ: [(usize, usize, &str); 24] = [
+const READ: &[(usize, usize, &str)] = &[
     (2, 2, "pages 1 16\n"),
     (2, 2, "pages 1048568 16\n"),
     (2, 2, "pages 4 4096\n"),
@@ -96,7 +98,7 @@ const READ: [(usize, usize, &str); 24] = [
 ];
 
 /// Parts that are refused, with the line and the reason.
-const REFUSED: [(usize, usize, &str, u32, LineWhy); 58] = [
+const REFUSED: &[(usize, usize, &str, u32, LineWhy)] = &[
     (2, 2, "pages 0 8\n", 2, LineWhy::Limit(2)),
     (2, 2, "pages 1048577 8\n", 2, LineWhy::Limit(2)),
     (2, 2, "pages 131073 8\n", 2, LineWhy::Limit(3)),
@@ -194,7 +196,7 @@ const REFUSED: [(usize, usize, &str, u32, LineWhy); 58] = [
 ];
 
 /// A line that stands several times, how often, what follows it, and how the text is refused; not at all at line 0.
-const REPEATED: [(&str, u32, &str, u32, LineWhy); 4] = [
+const REPEATED: &[(&str, u32, &str, u32, LineWhy)] = &[
     ("fault ackput 1\n", 32, "guest\n", 0, LineWhy::Order),
     ("fault ackput 1\n", 33, "guest\n", 42, LineWhy::Limit(15)),
     ("guest\n", 16, "", 0, LineWhy::Order),
@@ -207,7 +209,7 @@ const WHOLE: &str =
 
 #[test]
 fn reads_what_is_within_limits(rt: HostRuntime) {
-    for (first, last, instead) in READ {
+    for &(first, last, instead) in READ {
         assert_eq!(rt;
             fault_of(rt.alloc(), first, last, instead),
             None,
@@ -218,7 +220,7 @@ fn reads_what_is_within_limits(rt: HostRuntime) {
 
 #[test]
 fn refuses_the_first_fault(rt: HostRuntime) {
-    for (first, last, instead, line, why) in REFUSED {
+    for &(first, last, instead, line, why) in REFUSED {
         let want = Some(TextError::Fault(LineFault { line, why }));
         assert_eq!(rt;
             fault_of(rt.alloc(), first, last, instead),
@@ -228,28 +230,69 @@ fn refuses_the_first_fault(rt: HostRuntime) {
     }
 }
 
+/// A job's text in which a line stands so many times, and this behind it.
+fn text_of_many(
+    alloc: Global,
+    line_again: &str,
+    times: u32,
+    last: &str,
+) -> Result<Vec<u8>, AllocError> {
+    let mut text = text_with(alloc, 10, 11, "")?;
+    for _ in 0..times {
+        text.extend_from_slice(line_again.as_bytes())?;
+    }
+    text.extend_from_slice(last.as_bytes())?;
+    text.extend_from_slice(b"end\n")?;
+    Ok(text)
+}
+
+/// What is wrong with such a text.
+fn fault_of_many(alloc: Global, line_again: &str, times: u32, last: &str) -> Option<TextError> {
+    match text_of_many(alloc, line_again, times, last) {
+        Ok(text) => read_job(alloc, &text).err(),
+        Err(_) => Some(TextError::NoMemory),
+    }
+}
+
 #[test]
-fn counts_faults_and_guests(rt: HostRuntime) -> Result<(), Fail> {
-    for (line_again, times, last, line, why) in REPEATED {
-        let mut text = text_with(rt.alloc(), 10, 11, "")?;
-        for _ in 0..times {
-            text.extend_from_slice(line_again.as_bytes())?;
-        }
-        text.extend_from_slice(last.as_bytes())?;
-        text.extend_from_slice(b"end\n")?;
+fn counts_faults_and_guests(rt: HostRuntime) {
+    for &(line_again, times, last, line, why) in REPEATED {
         let want = (line > 0).then_some(TextError::Fault(LineFault { line, why }));
         assert_eq!(rt;
-            read_job(rt.alloc(), &text).err(),
+            fault_of_many(rt.alloc(), line_again, times, last),
             want,
             "of {times} times {line_again}"
         );
     }
-    Ok(())
+}
+
+/// The job of a text, and where it ends.
+fn job_of(alloc: Global, text: &[u8]) -> Result<(Job, Place), TextError> {
+    read_job(alloc, text)
+}
+
+/// Whether a text is that of its job as it is printed, and ends with it.
+pub fn is_printed_back(alloc: Global, text: &[u8]) -> Result<bool, Fail> {
+    let (job, place) = job_of(alloc, text)?;
+    let mut printed = Vec::new(alloc);
+    print_job(alloc, &job, &mut printed)?;
+    Ok(printed.as_slice() == text && place.byte == text.len())
+}
+
+/// The format and the group, and how many first contents, guests and unit operations there are.
+fn numbers_of(job: &Job) -> (u8, u32, usize, u8, u32) {
+    (
+        job.format,
+        job.group,
+        job.init.len(),
+        job.guests(),
+        job.operations(),
+    )
 }
 
 #[test]
 fn reads_every_line(rt: HostRuntime) -> Result<(), Fail> {
-    let (job, _) = read_job(rt.alloc(), WHOLE.as_bytes())?;
+    let (job, _) = job_of(rt.alloc(), WHOLE.as_bytes())?;
     let config = Config {
         streams: 2,
         credit: 5,
@@ -259,36 +302,38 @@ fn reads_every_line(rt: HostRuntime) -> Result<(), Fail> {
         dirty: 1,
         cancel: Some(5),
     };
-    assert_eq!(rt; (job.format, job.group), (2, 3));
+    assert_eq!(rt; numbers_of(&job), (2, 3, 2, 2, 5));
     assert_eq!(rt; job.config, config);
     assert_eq!(rt;
         job.faults.as_slice(),
         [Fault::SourceRead(9), Fault::Put(1, 2)].as_slice()
     );
-    assert_eq!(rt; job.init.len(), 2);
-    assert_eq!(rt; job.guests(), 2);
-    assert_eq!(rt; job.operations(), 5);
     Ok(())
 }
 
 #[test]
 fn prints_what_it_reads(rt: HostRuntime) -> Result<(), Fail> {
     let old = text_with(rt.alloc(), 10, 10, "guest\nwr 0 1 2 aabb\nrd 0 7 15 1\n")?;
-    for text in [old.as_slice(), WHOLE.as_bytes()] {
-        let (job, place) = read_job(rt.alloc(), text)?;
-        let mut printed = Vec::new(rt.alloc());
-        print_job(rt.alloc(), &job, &mut printed)?;
-        assert_eq!(rt; printed.as_slice(), text);
-        assert_eq!(rt; place.byte, text.len());
-    }
+    assert!(rt; is_printed_back(rt.alloc(), &old)?);
+    assert!(rt; is_printed_back(rt.alloc(), WHOLE.as_bytes())?);
     Ok(())
+}
+
+/// The unit of the first guest's second unit operation.
+fn second_unit(job: &Job) -> Option<UnitId> {
+    let guest = GuestId(0);
+    if job.guests() > 0 && job.operations_of(guest) > 1 {
+        Some(job.unit_op(guest, 1).unit)
+    } else {
+        None
+    }
 }
 
 #[test]
 fn tells_what_follows_a_job(rt: HostRuntime) -> Result<(), Fail> {
     let mut text = text_with(rt.alloc(), 10, 10, "guest\nwr 0 1 2 aa\n")?;
     text.extend_from_slice(b"begin 0\n")?;
-    let (job, place) = read_job(rt.alloc(), &text)?;
+    let (job, place) = job_of(rt.alloc(), &text)?;
     assert_eq!(rt;
         place,
         Place {
@@ -298,6 +343,6 @@ fn tells_what_follows_a_job(rt: HostRuntime) -> Result<(), Fail> {
     );
     assert_eq!(rt; job.traces.len(), 1);
     assert_eq!(rt; job.operations(), 2);
-    assert_eq!(rt; job.unit_op(GuestId(0), 1).unit, UnitId(6));
+    assert_eq!(rt; second_unit(&job), Some(UnitId(6)));
     Ok(())
 }

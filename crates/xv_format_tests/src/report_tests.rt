@@ -5,9 +5,9 @@ ghost use Rattle.xv_base.specs.Units.{units};
 ghost use Rattle.xv_report.specs.Workers.{AreDistinct};
 
 use serde_json::Value;
-use std::alloc::Global;
+use std::alloc::{AllocError, Global};
 use std::test::Fail;
-use xv_base::{Init, Layout, Pattern, Phase, Totals, UnitId};
+use xv_base::{Init, Layout, LayoutFault, Pattern, Phase, Totals, UnitId};
 use xv_device::{DevicePlan, MemDevice};
 use xv_io::{MemSink, WriteFault};
 use xv_report::{
@@ -88,7 +88,7 @@ const CREW: [Count; 7] = [
 ];
 
 /// Their counts, with one entry made after them.
-fn crew(alloc: Global) -> Result<Counts, Fail>
+fn crew(alloc: Global) -> Result<Counts, AllocError>
     ensures { IfOk result (λ tally. AreDistinct tally.workers) }
 {
     Ok(Counts {
@@ -97,13 +97,47 @@ fn crew(alloc: Global) -> Result<Counts, Fail>
     })
 }
 
+/// An output with room for so many bytes, of which a call takes at most so many.
+fn sink_of(alloc: Global, room: u32, piece: u32) -> Result<MemSink, Fail>
+    requires { 0 < piece }
+{
+    Ok(MemSink::new(alloc, room, piece, &[])?)
+}
+
+/// Whether an output has taken exactly this text.
+fn has_taken(sink: &MemSink, text: &[u8]) -> bool {
+    sink.bytes() == text
+}
+
+/// Whether an output has taken exactly these two texts.
+fn has_taken_both(sink: &MemSink, first: &[u8], second: &[u8]) -> bool {
+    sink.bytes().strip_prefix(first) == Some(second)
+}
+
+fn put_report(counts: Option<&Counts>, sink: &mut MemSink) -> Result<(), WriteFault> {
+    write_report(&SWITCHED, counts, sink)
+}
+
+fn put_idle_json(alloc: Global, sink: &mut MemSink) -> Result<(), JsonFault> {
+    write_report_json(alloc, &IDLE, None, sink)
+}
+
+fn put_crew_json(alloc: Global, sink: &mut MemSink) -> Result<(), JsonFault> {
+    match crew(alloc) {
+        Ok(counts) => write_report_json(alloc, &SWITCHED, Some(&counts), sink),
+        Err(_) => Err(JsonFault::NoMemory),
+    }
+}
+
 #[test]
 fn writes_report(rt: HostRuntime) -> Result<(), Fail> {
-    for (room, want) in [(200, Ok(())), (6, Err(WriteFault))] {
-        let mut sink = MemSink::new(rt.alloc(), room, 4, &[])?;
-        assert_eq!(rt; write_report(&SWITCHED, None, &mut sink), want);
-        let taken = (room as usize).min(REPORT.len());
-        assert_eq!(rt; sink.bytes(), &REPORT[..taken]);
+    for &(room, want, text) in &[
+        (200, Ok(()), REPORT),
+        (6, Err(WriteFault), b"phase ".as_slice()),
+    ] {
+        let mut sink = sink_of(rt.alloc(), room, 4)?;
+        assert_eq!(rt; put_report(None, &mut sink), want);
+        assert!(rt; has_taken(&sink, text));
     }
     Ok(())
 }
@@ -111,50 +145,65 @@ fn writes_report(rt: HostRuntime) -> Result<(), Fail> {
 #[test]
 fn writes_counts(rt: HostRuntime) -> Result<(), Fail> {
     let counts = crew(rt.alloc())?;
-    let mut sink = MemSink::new(rt.alloc(), 400, 7, &[])?;
-    assert_eq!(rt; write_report(&SWITCHED, Some(&counts), &mut sink), Ok(()));
-    assert_eq!(rt; sink.bytes().strip_prefix(REPORT), Some(WORKERS));
+    let mut sink = sink_of(rt.alloc(), 400, 7)?;
+    assert_eq!(rt; put_report(Some(&counts), &mut sink), Ok(()));
+    assert!(rt; has_taken_both(&sink, REPORT, WORKERS));
+    Ok(())
+}
+
+#[test]
+fn writes_json_of_an_idle_migration(rt: HostRuntime) -> Result<(), Fail> {
+    let mut sink = sink_of(rt.alloc(), 400, 9)?;
+    assert_eq!(rt; put_idle_json(rt.alloc(), &mut sink), Ok(()));
+    assert!(rt; has_taken(&sink, IDLE_JSON));
     Ok(())
 }
 
 #[test]
 fn writes_json(rt: HostRuntime) -> Result<(), Fail> {
-    let mut sink = MemSink::new(rt.alloc(), 400, 9, &[])?;
-    assert_eq!(rt;
-        write_report_json(rt.alloc(), &IDLE, None, &mut sink),
-        Ok(())
-    );
-    assert_eq!(rt; sink.bytes(), IDLE_JSON);
-
-    let counts = crew(rt.alloc())?;
-    for (room, want) in [(400, Ok(())), (6, Err(JsonFault::WriteFault))] {
-        let mut sink = MemSink::new(rt.alloc(), room, 4, &[])?;
-        let told = write_report_json(rt.alloc(), &SWITCHED, Some(&counts), &mut sink);
-        assert_eq!(rt; told, want);
-        let taken = (room as usize).min(SWITCHED_JSON.len());
-        assert_eq!(rt; sink.bytes(), &SWITCHED_JSON[..taken]);
+    for &(room, want, text) in &[
+        (400, Ok(()), SWITCHED_JSON),
+        (6, Err(JsonFault::WriteFault), b"{\"appl".as_slice()),
+    ] {
+        let mut sink = sink_of(rt.alloc(), room, 4)?;
+        assert_eq!(rt; put_crew_json(rt.alloc(), &mut sink), want);
+        assert!(rt; has_taken(&sink, text));
     }
     Ok(())
 }
 
+fn crew_value(alloc: Global) -> Result<Value, Fail> {
+    let counts = crew(alloc)?;
+    Ok(report_value(alloc, &SWITCHED, Some(&counts))?)
+}
+
+fn number_at(report: &Value, path: &str) -> Option<u64> {
+    report.pointer(path).and_then(Value::as_u64)
+}
+
 #[test]
 fn finds_numbers_by_names(rt: HostRuntime) -> Result<(), Fail> {
-    let counts = crew(rt.alloc())?;
-    let report = report_value(rt.alloc(), &SWITCHED, Some(&counts))?;
-    for (path, want) in [
+    let report = crew_value(rt.alloc())?;
+    for &(path, want) in &[
         ("/workers/guest 10", 1),
         ("/workers/pager", 5),
         ("/finish", 1),
         ("/journal", 21),
     ] {
-        let found = report.pointer(path).and_then(Value::as_u64);
-        assert_eq!(rt; found, Some(want), "at {path}");
+        assert_eq!(rt; number_at(&report, path), Some(want), "at {path}");
     }
     Ok(())
 }
 
-/// Three pages of 16 bytes, one of them filled with a byte.
-fn pages(alloc: Global, layout: &Layout, unit: u32, byte: u8) -> Result<MemDevice, Fail>
+/// A layout of three pages of 16 bytes.
+fn three_pages() -> Result<Layout, LayoutFault>
+    ensures { IfOk result (λ layout. units layout ≡ 3) }
+{
+    Layout::new(3, 16, &[])
+}
+
+/// A device of which one unit is filled with a byte.
+fn filled(alloc: Global, layout: &Layout, unit: u32, byte: u8) -> Result<MemDevice, Fail>
     requires { unit < units layout.now }
     ensures { IfOk result (λ device. device.shape ≡ layout.now) }
 {
@@ -170,14 +219,34 @@ fn pages(alloc: Global, layout: &Layout, unit: u32, byte: u8) -> Result<MemDevic
     Ok(MemDevice::new(alloc, layout, &init, plan)?)
 }
 
+/// The image of a source, and of a destination of which unit 2 is filled with 13.
+fn put_sides(
+    alloc: Global,
+    layout: &Layout,
+    source: &MemDevice,
+    sink: &mut MemSink,
+) -> Result<(), Fail>
+    requires source_layout { source.now.shape ≡ layout.now }
+    requires unit_in { 2 < units layout.now }
+{
+    let dest = filled(alloc, layout, 2, 0x0d)?;
+    Ok(write_image(layout, source, &dest, sink)?)
+}
+
+/// The same image, where unit 1 of the source is filled with 187.
+fn put_image(alloc: Global, sink: &mut MemSink) -> Result<(), Fail> {
+    let layout = three_pages()?;
+    let source = filled(alloc, &layout, 1, 0xbb)?;
+    put_sides(alloc, &layout, &source, sink)
+}
+
+const IMAGE: &[u8] =
+    b"src 1 bbbbbbbbbbbbbbbbbbbbbbbbbbbbbbbb\ndst 2 0d0d0d0d0d0d0d0d0d0d0d0d0d0d0d0d\n";
+
 #[test]
 fn writes_image(rt: HostRuntime) -> Result<(), Fail> {
-    let layout = Layout::new(3, 16, &[])?;
-    let source = pages(rt.alloc(), &layout, 1, 0xbb)?;
-    let dest = pages(rt.alloc(), &layout, 2, 0x0d)?;
-    let want = b"src 1 bbbbbbbbbbbbbbbbbbbbbbbbbbbbbbbb\ndst 2 0d0d0d0d0d0d0d0d0d0d0d0d0d0d0d0d\n";
-    let mut sink = MemSink::new(rt.alloc(), 100, 30, &[])?;
-    assert_eq!(rt; write_image(&layout, &source, &dest, &mut sink), Ok(()));
-    assert_eq!(rt; sink.bytes(), want.as_slice());
+    let mut sink = sink_of(rt.alloc(), 100, 30)?;
+    put_image(rt.alloc(), &mut sink)?;
+    assert!(rt; has_taken(&sink, IMAGE));
     Ok(())
 }
