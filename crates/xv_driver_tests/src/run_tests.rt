@@ -113,6 +113,9 @@ fn begun(alloc: Global, text: &[u8]) -> Result<Machine, Fail> {
     }
 }
 
+/// Drops what a migration was of, here alone: what goes with it is then proved once.
+fn let_go(_parts: Parts<MemDevice, MemDevice, MemWire>) {}
+
 /// A migration of this job.
 fn started(alloc: Global, job: Job) -> Result<Machine, Fail> {
     let (source, dest) = make_devices(alloc, &job)?;
@@ -126,7 +129,10 @@ fn started(alloc: Global, job: Job) -> Result<Machine, Fail> {
     };
     match Migration::start(alloc, parts) {
         Ok(machine) => Ok(machine),
-        Err(_parts) => Err(Fail::from(NoMemory)),
+        Err(parts) => {
+            let_go(parts);
+            Err(Fail::from(NoMemory))
+        }
     }
 }
 
@@ -148,9 +154,6 @@ fn are_filled(device: &MemDevice, bytes: [u8; 3]) -> bool {
     true
 }
 
-/// Drops a migration, here alone: what goes with it is then proved once.
-fn let_go(_machine: Machine) {}
-
 /// What the driver steps next.
 fn next_of(machine: &Machine) -> Option<Event> {
     next(machine)
@@ -160,7 +163,7 @@ fn next_of(machine: &Machine) -> Option<Event> {
 fn first_of(alloc: Global, text: &[u8]) -> Result<Option<Event>, Fail> {
     let machine = begun(alloc, text)?;
     let first = next_of(&machine);
-    let_go(machine);
+    let_go(machine.into_parts());
     Ok(first)
 }
 
@@ -197,7 +200,7 @@ fn leaves(machine: &Machine, run: &Run) -> bool {
 fn ends(alloc: Global, run: &Run) -> Result<bool, Fail> {
     let (machine, grown) = driven(alloc, run.text)?;
     let well = is_at_its_end(&machine, grown) && leaves(&machine, run);
-    let_go(machine);
+    let_go(machine.into_parts());
     Ok(well)
 }
 
