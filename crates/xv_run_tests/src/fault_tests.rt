@@ -64,12 +64,25 @@ const ROOM: u32 = 2_000;
 const CALLS: u32 = 100;
 
 /// The status of a run in which this call of the output fails, and what was taken; call 0 is none.
-fn outcome<X: Threads + Wait + Sync>(rt: &X, alloc: Global, case: &Case, call: u32) -> Result<(u8, Vec<u8>), Fail> {
+fn outcome<X: Threads + Wait + Sync>(
+    rt: &X,
+    alloc: Global,
+    case: &Case,
+    call: u32,
+) -> Result<(u8, Vec<u8>), Fail> {
     let words = words_of(alloc, case.words)?;
     let mut source = MemSource::new(alloc, case.input, GIVES, &[])?;
     let mut sink = MemSink::new(alloc, ROOM, TAKES, &[call])?;
     let mut left = Left::Nothing;
-    let status = status_of(rt, alloc, &words, &mut source, &mut sink, &FreeGate, &mut left);
+    let status = status_of(
+        rt,
+        alloc,
+        &words,
+        &mut source,
+        &mut sink,
+        &FreeGate,
+        &mut left,
+    );
     if status == 4 && !matches!(left, Left::Nothing) {
         return Err(Fail::new("a migration is left"));
     }

@@ -151,7 +151,11 @@ fn odd(case: &Case, output: &[u8], answers: &[u8]) -> Option<&'static str> {
     if !printed.journal.ends_with(case.end) {
         return Some("the end of the journal");
     }
-    if !case.report.iter().all(|line| has_line(printed.report, line)) {
+    if !case
+        .report
+        .iter()
+        .all(|line| has_line(printed.report, line))
+    {
         return Some("the report");
     }
     if !case.source.contains(&printed.source) || !case.dest.contains(&printed.dest) {
@@ -165,7 +169,11 @@ fn odd(case: &Case, output: &[u8], answers: &[u8]) -> Option<&'static str> {
 }
 
 /// The status of a run, and what is odd about it.
-fn outcome<X: Threads + Wait + Sync>(rt: &X, alloc: Global, case: &Case) -> Result<(u8, Option<&'static str>), Fail> {
+fn outcome<X: Threads + Wait + Sync>(
+    rt: &X,
+    alloc: Global,
+    case: &Case,
+) -> Result<(u8, Option<&'static str>), Fail> {
     let ran = ran_by(rt, alloc, &["run"], case.input, ROOM, &FreeGate)?;
     let odd = match &ran.left {
         Left::First(machine) => {

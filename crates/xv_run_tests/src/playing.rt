@@ -26,15 +26,34 @@ const PIECE: u32 = 65_536;
 
 /// Plays the journal of a migration again, on a migration of the job of the same text.
 pub fn play_again(alloc: Global, text: &[u8], machine: &Machine) -> Result<Played, Fail> {
-    let mut again = begin(alloc, job_of(alloc, text)?)?;
-    let mut sink = MemSink::new(alloc, ROOM, PIECE, &[])?;
-    if !play(&mut again, machine.journal(), &mut sink) {
-        return Err(Fail::new("an event that is not of the job, or too many answers"));
+    let mut again = started(alloc, text)?;
+    let answers = answers(alloc, &mut again, machine.journal())?;
+    let same = are_alike(machine, &again);
+    Ok(Played { answers, same })
+}
+
+/// A migration in which nothing has happened, of the job of a text.
+fn started(alloc: Global, text: &[u8]) -> Result<Machine, Fail> {
+    let job = job_of(alloc, text)?;
+    match begin(alloc, job) {
+        Ok(machine) => Ok(machine),
+        Err(_) => Err(Fail::new("no memory for a migration")),
     }
-    Ok(Played {
-        answers: sink.bytes().to_vec(alloc)?,
-        same: are_same(machine.source(), again.source()) && are_same(machine.dest(), again.dest()),
-    })
+}
+
+/// Whether two migrations hold the same on both sides.
+fn are_alike(one: &Machine, other: &Machine) -> bool {
+    are_same(one.source(), other.source()) && are_same(one.dest(), other.dest())
+}
+
+/// What is answered where the events of a journal are played.
+fn answers(alloc: Global, machine: &mut Machine, journal: &[Entry]) -> Result<Vec<u8>, Fail> {
+    let mut sink = MemSink::new(alloc, ROOM, PIECE, &[])?;
+    if play(machine, journal, &mut sink) {
+        Ok(sink.bytes().to_vec(alloc)?)
+    } else {
+        Err(Fail::new("an event of no worker, or too many answers"))
+    }
 }
 
 fn job_of(alloc: Global, text: &[u8]) -> Result<Job, Fail> {

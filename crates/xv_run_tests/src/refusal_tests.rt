@@ -349,12 +349,24 @@ const GIVES: u32 = 1;
 const TAKES: u32 = 64;
 
 /// The status of a call, what it wrote, and whether it left nothing.
-fn outcome<X: Threads + Wait + Sync>(rt: &X, alloc: Global, case: &Case) -> Result<(u8, Vec<u8>, bool), Fail> {
+fn outcome<X: Threads + Wait + Sync>(
+    rt: &X,
+    alloc: Global,
+    case: &Case,
+) -> Result<(u8, Vec<u8>, bool), Fail> {
     let words = words_of(alloc, case.words)?;
     let mut source = MemSource::new(alloc, case.input, GIVES, case.fails)?;
     let mut sink = MemSink::new(alloc, case.room, TAKES, &[])?;
     let mut left = Left::Nothing;
-    let status = status_of(rt, alloc, &words, &mut source, &mut sink, &FreeGate, &mut left);
+    let status = status_of(
+        rt,
+        alloc,
+        &words,
+        &mut source,
+        &mut sink,
+        &FreeGate,
+        &mut left,
+    );
     let nothing = matches!(left, Left::Nothing);
     Ok((status, sink.bytes().to_vec(alloc)?, nothing))
 }
