@@ -1,7 +1,6 @@
 //! Two workers that meet: each is held at its first turn until the other's was called. So a run by one thread, or one that
 //! calls no gate, fails here.
 
-use crate::large_tests::ROOM;
 use crate::printed::{number, parts};
 use crate::running::{ran_by, said};
 use std::sync::atomic::{AtomicBool, Ordering};
@@ -64,7 +63,7 @@ fn made(output: &[u8], worker: &str) -> Option<u64> {
 fn workers_run_at_the_same_time(rt: HostRuntime) -> Result<(), Fail> {
     let job = said(rt.alloc(), &["gen", "7"])?;
     let gate = Meeting::new();
-    let ran = ran_by(&rt, rt.alloc(), &["run"], &job, ROOM, &gate)?;
+    let ran = ran_by(&rt, rt.alloc(), &["run"], &job, &gate)?;
     assert_eq!(rt; ran.status, 0);
     assert!(rt; gate.guest.load(Ordering::SeqCst));
     assert!(rt; gate.copier.load(Ordering::SeqCst));

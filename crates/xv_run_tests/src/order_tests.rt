@@ -137,9 +137,6 @@ const CASES: &[Case] = &[
     },
 ];
 
-/// How many bytes a job of these prints at most.
-const ROOM: u32 = 10_000;
-
 /// What is printed that no order prints, or that is not of the journal; none where all is well.
 fn odd(case: &Case, output: &[u8], answers: &[u8]) -> Option<&'static str> {
     let Some(printed) = parts(output) else {
@@ -174,7 +171,7 @@ fn outcome<X: Threads + Wait + Sync>(
     alloc: Global,
     case: &Case,
 ) -> Result<(u8, Option<&'static str>), Fail> {
-    let ran = ran_by(rt, alloc, &["run"], case.input, ROOM, &FreeGate)?;
+    let ran = ran_by(rt, alloc, &["run"], case.input, &FreeGate)?;
     let odd = match &ran.left {
         Left::First(machine) => {
             let played = play_again(alloc, case.input, machine)?;

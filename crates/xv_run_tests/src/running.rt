@@ -17,8 +17,8 @@ pub struct Ran {
     pub left: Left,
 }
 
-/// Room for all that the large job of a number prints.
-const ROOM: u32 = 64_000_000;
+/// Room for all that is printed of any job here.
+const ROOM: u32 = 32_000_000;
 
 /// How many bytes a read gives, and a write takes, where it does not matter.
 const PIECE: u32 = 65_536;
@@ -50,12 +50,11 @@ pub fn ran_by<G: Gate, X: Threads + Wait + Sync>(
     alloc: Global,
     words: &[&str],
     input: &[u8],
-    room: u32,
     gate: &G,
 ) -> Result<Ran, Fail> {
     let words = words_of(alloc, words)?;
     let mut source = MemSource::new(alloc, input, PIECE, &[])?;
-    let mut sink = MemSink::new(alloc, room, PIECE, &[])?;
+    let mut sink = MemSink::new(alloc, ROOM, PIECE, &[])?;
     let mut left = Left::Nothing;
     let status = status_of(rt, alloc, &words, &mut source, &mut sink, gate, &mut left);
     Ok(Ran {

@@ -65,16 +65,13 @@ const CASES: &[Case] = &[
     },
 ];
 
-/// How many bytes a job of these prints at most.
-const ROOM: u32 = 2_000;
-
 /// The status of a run, what it printed, and the answers of the journal that it left, played again.
 fn outcome<X: Threads + Wait + Sync>(
     rt: &X,
     alloc: Global,
     case: &Case,
 ) -> Result<(u8, Vec<u8>, Vec<u8>), Fail> {
-    let ran = ran_by(rt, alloc, case.words, case.input, ROOM, &FreeGate)?;
+    let ran = ran_by(rt, alloc, case.words, case.input, &FreeGate)?;
     let answers = match &ran.left {
         Left::First(machine) => play_again(alloc, case.input, machine)?.answers,
         Left::Nothing => Vec::new(alloc),
