@@ -124,36 +124,28 @@ fn steps_of(worker: Job1, journal: &[Entry]) -> u64
 {
     let mut count = 0;
     for entry in journal {
-        count += u64::from(is_worker(worker, worker_of(entry.event)));
+        count += u64::from(is_event_of(worker, entry.event));
     }
     count
 }
 
-fn is_worker(one: Job1, other: Job1) -> bool
-    ensures { result ≡ is_worker one other }
+/// Whether it is an event of this worker. It is asked of each entry for each worker, so it is one match.
+fn is_event_of(worker: Job1, event: Event) -> bool
+    ensures { result ≡ is_worker worker (worker_of event) }
 {
-    match (one, other) {
-        (Job1::Guest(one), Job1::Guest(other)) => one == other,
-        (Job1::Copier(one), Job1::Copier(other)) => one == other,
-        (Job1::Sender(one), Job1::Sender(other)) => one == other,
-        (Job1::Receiver(one), Job1::Receiver(other)) => one == other,
-        (Job1::Pager, Job1::Pager) | (Job1::Applier, Job1::Applier) => true,
-        _ => false,
-    }
-}
-
-/// The worker whose event it is.
-fn worker_of(event: Event) -> Job1
-    ensures { result ≡ worker_of event }
-{
-    match event {
-        Event::Guest(guest) => Job1::Guest(guest.0),
-        Event::Begin(disk) | Event::Read(disk) | Event::Advance(disk) | Event::Release(disk) =>
-            Job1::Copier(disk),
-        Event::Send(stream) => Job1::Sender(stream),
-        Event::Deliver(stream) => Job1::Receiver(stream),
-        Event::Apply | Event::Ack => Job1::Applier,
-        Event::Round | Event::Page | Event::Credit | Event::Stun | Event::Switch | Event::Cancel =>
-            Job1::Pager,
+    match worker {
+        Job1::Guest(number) => matches!(event, Event::Guest(guest) if guest.0 == number),
+        Job1::Copier(number) => match event {
+            Event::Begin(disk) | Event::Read(disk) | Event::Advance(disk) | Event::Release(disk) =>
+                disk == number,
+            _ => false,
+        },
+        Job1::Pager => matches!(
+            event,
+            Event::Round | Event::Page | Event::Credit | Event::Stun | Event::Switch | Event::Cancel
+        ),
+        Job1::Sender(number) => matches!(event, Event::Send(stream) if stream == number),
+        Job1::Receiver(number) => matches!(event, Event::Deliver(stream) if stream == number),
+        Job1::Applier => matches!(event, Event::Apply | Event::Ack),
     }
 }

@@ -22,6 +22,18 @@ pub fn event_at(worker: Job1, step: u64) -> Event
     }
 }
 
+/// How many events a worker goes through in turn.
+pub(crate) fn event_count(worker: Job1) -> u32
+    ensures { result ≡ length (events worker) }
+{
+    match worker {
+        Job1::Guest(_) | Job1::Sender(_) | Job1::Receiver(_) => 1,
+        Job1::Copier(_) => 4,
+        Job1::Pager => 6,
+        Job1::Applier => 2,
+    }
+}
+
 fn copier_event(disk: u8, place: u64) -> Event
     requires { place < 4 }
     ensures { result ≡ get_or (events (Copier disk)) place Cancel }

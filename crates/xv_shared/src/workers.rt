@@ -10,7 +10,7 @@ ghost use Rattle.xv_shared.specs.Crews.{AreAll};
 ghost use Rattle.xv_shared.specs.Running.{AreWithin, IsSpent, HasRun, HaveRun};
 
 use crate::crew::Crew;
-use crate::events::event_at;
+use crate::events::{event_at, event_count};
 use crate::gate::Gate;
 use crate::ledgers::Named;
 use crate::passes::{GuestPass, Pass, WorkerPass};
@@ -143,18 +143,25 @@ fn run_other<
     ensures called { AreWithin (4 * bound (job_of D.origin.job)) pass.old.calls pass.new.calls }
 {
     let most = CALLS_PER_ENTRY * u64::from(shared.bound());
+    let events = event_count(pass.worker());
+    let mut waits: u32 = 0;
     for step in 0..most {
         let event = event_at(pass.worker(), step);
         if is_of_guest(event) || !shared.fits(event) {
             return;
         }
         gate.turn(number, pass.calls());
-        if is_wait(shared.act(rt, pass, event)) {
+        waits = match shared.act(rt, pass, event) {
+            Turn::Wait(_) => waits.saturating_add(1),
+            Turn::Done(_) | Turn::Queued | Turn::Faulted | Turn::Failed(_) => 0,
+        };
+        // Each of its events has waited, so what this worker waits for is others'.
+        if waits >= events {
             if shared.finished(rt) {
                 return;
             }
-            // Others may hold what this worker waits for.
             yield_now();
+            waits = 0;
         }
     }
 }
@@ -163,8 +170,4 @@ fn is_of_guest(event: Event) -> bool
     ensures { result ≡ is_of_guest event }
 {
     matches!(event, Event::Guest(_))
-}
-
-fn is_wait(turn: Turn) -> bool {
-    matches!(turn, Turn::Wait(_))
 }

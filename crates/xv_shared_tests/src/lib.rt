@@ -5,4 +5,8 @@
 #[cfg(test)]
 mod made;
 #[cfg(test)]
+mod play;
+#[cfg(test)]
+mod row_tests;
+#[cfg(test)]
 mod run_tests;
