@@ -1,3 +1,1 @@
-mod Stays
-mod Standing
 mod Scans

@@ -2,8 +2,8 @@ use Rattle.std.proofs.Common.{◌∙◌, [], lit<, refl, sym}
 use Rattle.xv_base.specs.Units.{size}
 use Rattle.xv_streams.specs.Streamed.{lane}
 use Rattle.xv_source.specs.Half.{next_unit}
-use Rattle.xv_engine_tests.proofs.Standing.{small, limits, starts, begins, reads, behind, at_begun, few-at, disk-at, shape-at, batch-fits}
-use Rattle.xv_engine_tests.proofs.source_message_tests.send_first.Goals as goal
+use Rattle.xv_source_tests.proofs.Standing.{small, limits, starts, begins, reads, behind, at_begun, few-at, disk-at, shape-at, batch-fits}
+use Rattle.xv_source_tests.proofs.source_message_tests.send_first.Goals as goal
 
 pub read-requires-clause-disk_in : goal.read-requires-clause-disk_in
 read-requires-clause-disk_in c =

@@ -19,7 +19,7 @@ use Rattle.xv_source.specs.Half.{Source, IsSourceOf}
 use Rattle.xv_source.specs.Step.{Allows, StepsSource, HasFewVersions}
 use Rattle.xv_source.specs.Waits.{plain_job, plain_view}
 use Rattle.xv_source.specs.Limits.{fresh}
-use Rattle.xv_engine_tests.specs.Uncopied.{IsUncopied}
+use Rattle.xv_source_tests.specs.Uncopied.{IsUncopied}
 
 -- a job of the half's limits; the half is the source's part of it and of a view in which only its own numbers are
 abbrev own_job : Bool → Source → Job

@@ -1,6 +1,6 @@
 use Rattle.std.proofs.Common.{arith}
-use Rattle.xv_engine_tests.proofs.Stays.{read-stays, advance-keeps-disks, stays-uncopied, few-none}
-use Rattle.xv_engine_tests.proofs.source_tests.copy.Goals as goal
+use Rattle.xv_source_tests.proofs.Stays.{read-stays, advance-keeps-disks, stays-uncopied, few-none}
+use Rattle.xv_source_tests.proofs.source_tests.copy.Goals as goal
 
 pub advance-requires-clause-disk_in : goal.advance-requires-clause-disk_in
 advance-requires-clause-disk_in c =

@@ -1,6 +1,6 @@
 use Rattle.std.proofs.Common.{lit<}
-use Rattle.xv_engine_tests.proofs.Stays.{begin-stays, stays-uncopied, unit-of}
-use Rattle.xv_engine_tests.proofs.source_tests.begin.Goals as goal
+use Rattle.xv_source_tests.proofs.Stays.{begin-stays, stays-uncopied, unit-of}
+use Rattle.xv_source_tests.proofs.source_tests.begin.Goals as goal
 
 pub side-requires : goal.side-requires
 side-requires c =

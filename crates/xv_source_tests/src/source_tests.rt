@@ -1,7 +1,7 @@
 ghost use Rattle.std.specs.Prelude.{◌≡◌, ◌<◌, [], ◌∷◌, length, IfOk};
 ghost use Rattle.xv_base.specs.Units.{shape_of};
 ghost use Rattle.xv_device.specs.Told.{HasRoomToCount};
-ghost use Rattle.xv_engine_tests.specs.Uncopied.{IsUncopied};
+ghost use Rattle.xv_source_tests.specs.Uncopied.{IsUncopied};
 
 use std::alloc::Global;
 use std::test::Fail;

@@ -1,8 +1,8 @@
 use Rattle.std.proofs.Common.{List, lit<, refl, ap}
 use Rattle.xv_model.specs.View.{Disk, in_queue}
 use Rattle.xv_source.specs.Step.{operation_call}
-use Rattle.xv_engine_tests.proofs.Standing.{small, limits, over, waiting, starts, begins, queues, reads-queued, frees, few-at, room-at, disks-at, disk-at, queue-at, shape-at, some-queued, front-queued, block-over, legal-over}
-use Rattle.xv_engine_tests.proofs.source_guest_tests.releases_a_write_behind.Goals as goal
+use Rattle.xv_source_tests.proofs.Standing.{small, limits, over, waiting, starts, begins, queues, reads-queued, frees, few-at, room-at, disks-at, disk-at, queue-at, shape-at, some-queued, front-queued, block-over, legal-over}
+use Rattle.xv_source_tests.proofs.source_guest_tests.releases_a_write_behind.Goals as goal
 
 pub guest-requires-clause-free : goal.guest-requires-clause-free
 guest-requires-clause-free g c =

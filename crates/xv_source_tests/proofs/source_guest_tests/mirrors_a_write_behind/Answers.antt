@@ -2,8 +2,8 @@ use Rattle.std.proofs.Common.{List, [], ◌∷◌, lit<, refl, ap}
 use Rattle.xv_base.specs.Units.{size}
 use Rattle.xv_model.specs.View.{Disk, in_queue}
 use Rattle.xv_source.specs.Half.{next_unit}
-use Rattle.xv_engine_tests.proofs.Standing.{small, limits, over, starts, few-at, room-at, disks-at, shape-at, legal-over, at_begun, begins, reads, behind, disk-at}
-use Rattle.xv_engine_tests.proofs.source_guest_tests.mirrors_a_write_behind.Goals as goal
+use Rattle.xv_source_tests.proofs.Standing.{small, limits, over, starts, few-at, room-at, disks-at, shape-at, legal-over, at_begun, begins, reads, behind, disk-at}
+use Rattle.xv_source_tests.proofs.source_guest_tests.mirrors_a_write_behind.Goals as goal
 
 pub read-requires-clause-disk_in : goal.read-requires-clause-disk_in
 read-requires-clause-disk_in g c =

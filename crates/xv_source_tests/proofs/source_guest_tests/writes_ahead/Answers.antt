@@ -4,8 +4,8 @@ use Rattle.xv_base.specs.declared.event.Event.TheVariants.{Guest}
 use Rattle.xv_device.specs.Told.{Told}
 use Rattle.xv_model.specs.View.{Disk, first_view, in_queue}
 use Rattle.xv_source.specs.Step.{operation_call}
-use Rattle.xv_engine_tests.proofs.Standing.{machine, small, limits, over, starts, few-at, room-at, disks-at, shape-at, stands-called, legal-over, unit-over}
-use Rattle.xv_engine_tests.proofs.source_guest_tests.writes_ahead.Goals as goal
+use Rattle.xv_source_tests.proofs.Standing.{machine, small, limits, over, starts, few-at, room-at, disks-at, shape-at, stands-called, legal-over, unit-over}
+use Rattle.xv_source_tests.proofs.source_guest_tests.writes_ahead.Goals as goal
 
 pub guest_waits-waits-requires : goal.guest_waits-waits-requires
 guest_waits-waits-requires g c =
