@@ -54,6 +54,9 @@ struct Findings {
     agrees: bool,
 }
 
+/// Drops what a migration was of, here alone: what goes with it is then proved once.
+fn let_go<T: UnitDevice + Drop>(_parts: Parts<T, T, MemWire>) {}
+
 /// The migration over devices and wires in memory of the job that a text says.
 fn begun(alloc: Global, text: &[u8]) -> Result<Machine, Fail>
     ensures { IfOk result (λ machine. machine ≡ begun_in_memory machine.job) }
@@ -82,7 +85,10 @@ fn begun_silent(alloc: Global, text: &[u8], rate: u32, seed: u32) -> Result<Sile
     };
     match Migration::start(alloc, parts) {
         Ok(machine) => Ok(machine),
-        Err(_parts) => Err(Fail::from(NoMemory)),
+        Err(parts) => {
+            let_go(parts);
+            Err(Fail::from(NoMemory))
+        }
     }
 }
 
@@ -104,9 +110,6 @@ fn finished_silent(
     let _ = finish(&mut machine);
     Ok(machine)
 }
-
-/// Drops a migration, here alone: what goes with it is then proved once.
-fn let_go<T: UnitDevice + Drop>(_machine: Migration<T, T, MemWire>) {}
 
 /// The device that has the guests.
 fn owner<T: UnitDevice>(machine: &Migration<T, T, MemWire>) -> &T {
@@ -150,7 +153,7 @@ fn ending_of<T: UnitDevice>(
 fn ending_where_told(alloc: Global, text: &[u8]) -> Result<Ending, Fail> {
     let machine = finished(alloc, text)?;
     let ending = ending_of(alloc, &machine, owner(&machine));
-    let_go(machine);
+    let_go(machine.into_parts());
     ending
 }
 
@@ -158,7 +161,7 @@ fn ending_where_told(alloc: Global, text: &[u8]) -> Result<Ending, Fail> {
 fn ending_where_silent(alloc: Global, text: &[u8]) -> Result<Ending, Fail> {
     let machine = finished_silent(alloc, text, 0, 0)?;
     let ending = ending_of(alloc, &machine, inner_owner(&machine));
-    let_go(machine);
+    let_go(machine.into_parts());
     ending
 }
 
@@ -167,7 +170,7 @@ fn run_silent(alloc: Global, text: &[u8], rate: u32, seed: u32) -> Result<Findin
     let first = first_image(alloc, text)?;
     let machine = finished_silent(alloc, text, rate, seed)?;
     let findings = find(alloc, &machine, first);
-    let_go(machine);
+    let_go(machine.into_parts());
     findings
 }
 
@@ -175,7 +178,7 @@ fn run_silent(alloc: Global, text: &[u8], rate: u32, seed: u32) -> Result<Findin
 fn first_image(alloc: Global, text: &[u8]) -> Result<Vec<u8>, Fail> {
     let machine = begun(alloc, text)?;
     let first = image(alloc, machine.source());
-    let_go(machine);
+    let_go(machine.into_parts());
     first
 }
 
