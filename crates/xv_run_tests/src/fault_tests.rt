@@ -83,7 +83,9 @@ fn outcome<X: Threads + Wait + Sync>(
         &FreeGate,
         &mut left,
     );
-    if status == 4 && !matches!(left, Left::Nothing) {
+    let nothing = matches!(left, Left::Nothing);
+    drop(left);
+    if status == 4 && !nothing {
         return Err(Fail::new("a migration is left"));
     }
     Ok((status, sink.bytes().to_vec(alloc)?))

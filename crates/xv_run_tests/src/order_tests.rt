@@ -1,7 +1,6 @@
 //! What is printed of jobs whose workers may act in several orders: what every order has to print, and that the journal,
 //! played again by one thread, is answered as it is printed.
 
-use crate::playing::play_again;
 use crate::printed::{has_line, number, parts, sum};
 use crate::running::ran_by;
 use std::alloc::Global;
@@ -9,7 +8,6 @@ use std::sync::Wait;
 use std::test::Fail;
 use std::thread::Threads;
 use xv_shared::FreeGate;
-use xv_top::Left;
 
 struct Case {
     name: &'static str,
@@ -172,16 +170,15 @@ fn outcome<X: Threads + Wait + Sync>(
     case: &Case,
 ) -> Result<(u8, Option<&'static str>), Fail> {
     let ran = ran_by(rt, alloc, &["run"], case.input, &FreeGate)?;
-    let odd = match &ran.left {
-        Left::First(machine) => {
-            let played = play_again(alloc, case.input, machine)?;
+    let odd = match &ran.played {
+        Some(played) => {
             if played.same {
                 odd(case, &ran.output, &played.answers)
             } else {
                 Some("the units")
             }
         }
-        Left::Nothing => Some("nothing left"),
+        None => Some("nothing left"),
     };
     Ok((ran.status, odd))
 }

@@ -27,9 +27,13 @@ const PIECE: u32 = 65_536;
 /// Plays the journal of a migration again, on a migration of the job of the same text.
 pub fn play_again(alloc: Global, text: &[u8], machine: &Machine) -> Result<Played, Fail> {
     let mut again = started(alloc, text)?;
-    let answers = answers(alloc, &mut again, machine.journal())?;
+    let answers = answers(alloc, &mut again, machine.journal());
     let same = are_alike(machine, &again);
-    Ok(Played { answers, same })
+    drop(again);
+    Ok(Played {
+        answers: answers?,
+        same,
+    })
 }
 
 /// A migration in which nothing has happened, of the job of a text.

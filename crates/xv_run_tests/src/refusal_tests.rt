@@ -368,6 +368,7 @@ fn outcome<X: Threads + Wait + Sync>(
         &mut left,
     );
     let nothing = matches!(left, Left::Nothing);
+    drop(left);
     Ok((status, sink.bytes().to_vec(alloc)?, nothing))
 }
 

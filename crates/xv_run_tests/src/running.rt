@@ -1,5 +1,6 @@
 //! A call of the command over an input and an output in memory.
 
+use crate::playing::{Played, play_again};
 use std::alloc::{AllocError, Global};
 use std::sync::Wait;
 use std::test::Fail;
@@ -9,12 +10,12 @@ use xv_run::top_run;
 use xv_shared::{FreeGate, Gate};
 use xv_top::{Left, top};
 
-/// A call's status, what it wrote, and what it left.
+/// A call's status, what it wrote, and how its journal was answered when it was played again, where it left one.
 #[derive(Drop)]
 pub struct Ran {
     pub status: u8,
     pub output: Vec<u8>,
-    pub left: Left,
+    pub played: Option<Played>,
 }
 
 /// Room for all that is printed of any job here.
@@ -57,11 +58,21 @@ pub fn ran_by<G: Gate, X: Threads + Wait + Sync>(
     let mut sink = MemSink::new(alloc, ROOM, PIECE, &[])?;
     let mut left = Left::Nothing;
     let status = status_of(rt, alloc, &words, &mut source, &mut sink, gate, &mut left);
+    let played = played(alloc, input, &left);
+    drop(left);
     Ok(Ran {
         status,
+        played: played?,
         output: sink.bytes().to_vec(alloc)?,
-        left,
     })
+}
+
+/// What the journal of a migration that is left gives when it is played again.
+fn played(alloc: Global, input: &[u8], left: &Left) -> Result<Option<Played>, Fail> {
+    match left {
+        Left::First(machine) => Ok(Some(play_again(alloc, input, machine)?)),
+        Left::Nothing => Ok(None),
+    }
 }
 
 /// What a command of one thread without an input writes.
@@ -71,5 +82,6 @@ pub fn said(alloc: Global, words: &[&str]) -> Result<Vec<u8>, Fail> {
     let mut sink = MemSink::new(alloc, ROOM, PIECE, &[])?;
     let mut left = Left::Nothing;
     let _ = top(alloc, &words, &mut source, &mut sink, &mut left);
+    drop(left);
     Ok(sink.bytes().to_vec(alloc)?)
 }

@@ -1,14 +1,12 @@
 //! What is printed of jobs whose run has one journal, whatever the order of the threads: a read of the source fails before
 //! two workers could act.
 
-use crate::playing::play_again;
-use crate::running::ran_by;
+use crate::running::{Ran, ran_by};
 use std::alloc::Global;
 use std::sync::Wait;
 use std::test::Fail;
 use std::thread::Threads;
 use xv_shared::FreeGate;
-use xv_top::Left;
 
 /// A page whose read fails.
 pub const PAGE: &[u8] =
@@ -72,11 +70,16 @@ fn outcome<X: Threads + Wait + Sync>(
     case: &Case,
 ) -> Result<(u8, Vec<u8>, Vec<u8>), Fail> {
     let ran = ran_by(rt, alloc, case.words, case.input, &FreeGate)?;
-    let answers = match &ran.left {
-        Left::First(machine) => play_again(alloc, case.input, machine)?.answers,
-        Left::Nothing => Vec::new(alloc),
+    let Ran {
+        status,
+        output,
+        played,
+    } = ran;
+    let answers = match played {
+        Some(played) => played.answers,
+        None => Vec::new(alloc),
     };
-    Ok((ran.status, ran.output, answers))
+    Ok((status, output, answers))
 }
 
 #[test]
