@@ -272,7 +272,7 @@ fn job_of(alloc: Global, text: &[u8]) -> Result<(Job, Place), TextError> {
 }
 
 /// Whether a text is that of its job as it is printed, and ends with it.
-pub fn is_printed_back(alloc: Global, text: &[u8]) -> Result<bool, Fail> {
+pub(crate) fn is_printed_back(alloc: Global, text: &[u8]) -> Result<bool, Fail> {
     let (job, place) = job_of(alloc, text)?;
     let mut printed = Vec::new(alloc);
     print_job(alloc, &job, &mut printed)?;

@@ -25,7 +25,7 @@ const ROOM: u32 = 4_000_000;
 const PIECE: u32 = 65_536;
 
 /// Plays the journal of a migration again, on a migration of the job of the same text.
-pub fn play_again(alloc: Global, text: &[u8], machine: &Machine) -> Result<Played, Fail> {
+pub(crate) fn play_again(alloc: Global, text: &[u8], machine: &Machine) -> Result<Played, Fail> {
     let mut again = started(alloc, text)?;
     let answers = answers(alloc, &mut again, machine.journal());
     let same = are_alike(machine, &again);

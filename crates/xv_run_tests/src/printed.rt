@@ -12,7 +12,7 @@ pub struct Printed<'a> {
 }
 
 /// Cuts what is printed in rows.
-pub fn parts(output: &[u8]) -> Option<Printed<'_>> {
+pub(crate) fn parts(output: &[u8]) -> Option<Printed<'_>> {
     let all = str::from_utf8(output).ok()?;
     let (journal, rest) = before(all, "phase ")?;
     let (report, rest) = before(rest, "worker ")?;
@@ -41,7 +41,7 @@ fn behind_line<'a>(text: &'a str, word: &str) -> Option<(&'a str, &'a str)> {
 }
 
 /// The number behind a name, on a line of its own.
-pub fn number(lines: &str, name: &str) -> Option<u64> {
+pub(crate) fn number(lines: &str, name: &str) -> Option<u64> {
     for line in lines.lines() {
         if let Some((first, value)) = line.rsplit_once(' ') {
             if first == name {
@@ -53,7 +53,7 @@ pub fn number(lines: &str, name: &str) -> Option<u64> {
 }
 
 /// The sum of the numbers that end the lines.
-pub fn sum(lines: &str) -> Option<u64> {
+pub(crate) fn sum(lines: &str) -> Option<u64> {
     let mut sum = 0u64;
     for line in lines.lines() {
         let (_, value) = line.rsplit_once(' ')?;
@@ -63,6 +63,6 @@ pub fn sum(lines: &str) -> Option<u64> {
 }
 
 /// Whether a line stands among the lines.
-pub fn has_line(lines: &str, line: &str) -> bool {
+pub(crate) fn has_line(lines: &str, line: &str) -> bool {
     lines.lines().any(|each| each == line)
 }

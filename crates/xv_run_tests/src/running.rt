@@ -24,7 +24,7 @@ const ROOM: u32 = 32_000_000;
 /// How many bytes a read gives, and a write takes, where it does not matter.
 const PIECE: u32 = 65_536;
 
-pub fn words_of(alloc: Global, all: &[&str]) -> Result<Vec<String>, AllocError> {
+pub(crate) fn words_of(alloc: Global, all: &[&str]) -> Result<Vec<String>, AllocError> {
     let mut words = Vec::new(alloc);
     for word in all {
         words.push(String::from_str(alloc, word)?)?;
@@ -33,7 +33,7 @@ pub fn words_of(alloc: Global, all: &[&str]) -> Result<Vec<String>, AllocError> 
 }
 
 /// The status of the command, which leaves something.
-pub fn status_of<G: Gate, X: Threads + Wait + Sync>(
+pub(crate) fn status_of<G: Gate, X: Threads + Wait + Sync>(
     rt: &X,
     alloc: Global,
     words: &[String],
@@ -46,7 +46,7 @@ pub fn status_of<G: Gate, X: Threads + Wait + Sync>(
 }
 
 /// Runs a job whose calls pass a gate, with an output that has room for all.
-pub fn ran_by<G: Gate, X: Threads + Wait + Sync>(
+pub(crate) fn ran_by<G: Gate, X: Threads + Wait + Sync>(
     rt: &X,
     alloc: Global,
     words: &[&str],
@@ -76,7 +76,7 @@ fn played(alloc: Global, input: &[u8], left: &Left) -> Result<Option<Played>, Fa
 }
 
 /// What a command of one thread without an input writes.
-pub fn said(alloc: Global, words: &[&str]) -> Result<Vec<u8>, Fail> {
+pub(crate) fn said(alloc: Global, words: &[&str]) -> Result<Vec<u8>, Fail> {
     let words = words_of(alloc, words)?;
     let mut source = MemSource::new(alloc, &[], PIECE, &[])?;
     let mut sink = MemSink::new(alloc, ROOM, PIECE, &[])?;
