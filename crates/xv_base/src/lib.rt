@@ -41,5 +41,3 @@ pub use status::Status;
 pub use text::{LineBuf, LineFault, LineWhy, TextError};
 pub use unit::{DiskShape, Failed, GuestId, NoMemory, UnitId};
 
-#[cfg(test)]
-mod tests;

@@ -7,8 +7,6 @@
 
 mod credit;
 mod freed;
-#[cfg(test)]
-mod tests;
 
 pub use credit::Credit;
 pub use freed::Freed;

@@ -12,8 +12,6 @@ mod device;
 mod memory;
 mod operating;
 mod plan;
-#[cfg(test)]
-mod tests;
 
 pub use device::UnitDevice;
 pub use memory::MemDevice;

@@ -8,8 +8,6 @@
 
 mod level;
 mod set;
-#[cfg(test)]
-mod tests;
 mod word;
 
 pub use set::DirtySet;

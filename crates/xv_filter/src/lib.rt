@@ -8,8 +8,6 @@
 
 mod queue;
 mod side;
-#[cfg(test)]
-mod tests;
 
 pub use queue::Queue;
 pub use side::place;

@@ -13,8 +13,6 @@ mod groups;
 mod heads;
 pub mod laws;
 mod size;
-#[cfg(test)]
-mod tests;
 
 pub use codes::{ACK_KIND, CONTENT_MARK, ENTRY_HEAD_SIZE, HEAD_SIZE, MESSAGE_KIND, ZERO_MARK};
 pub use encode::{encode_ack, encode_entry, encode_group_head, encode_unit};

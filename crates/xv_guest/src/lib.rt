@@ -8,8 +8,6 @@
 
 mod history;
 mod plain;
-#[cfg(test)]
-mod tests;
 
 pub use history::History;
 pub use plain::PlainGuest;

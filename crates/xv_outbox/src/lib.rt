@@ -7,8 +7,6 @@
 #![tactic(auto)]
 
 mod outbox;
-#[cfg(test)]
-mod tests;
 
 pub use outbox::Outbox;
 pub use xv_base::UnitHead;

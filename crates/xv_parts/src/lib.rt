@@ -8,11 +8,7 @@
 
 mod beginning;
 mod laws;
-#[cfg(test)]
-mod migration_tests;
 mod plans;
-#[cfg(test)]
-mod tests;
 
 pub use beginning::{Machine, begin, make_devices, make_wires};
 pub use laws::{

@@ -12,8 +12,6 @@
 mod numbers;
 mod passes;
 mod progress;
-#[cfg(test)]
-mod tests;
 mod words;
 
 pub use numbers::Numbers;

@@ -23,5 +23,3 @@ pub use print::{print_probe, print_turn, push_turn};
 pub use read::read_events;
 pub use word::{Named, Word};
 
-#[cfg(test)]
-mod tests;

@@ -31,5 +31,3 @@ pub use reading::{Place, ReadsLines, Stop, at_line, read_lines};
 pub use row::{Kind, Row, read_fields};
 pub use words::{TextWord, first_spelled, is_spelled};
 
-#[cfg(test)]
-mod tests;

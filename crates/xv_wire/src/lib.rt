@@ -9,8 +9,6 @@
 mod memory;
 mod pieces;
 mod plan;
-#[cfg(test)]
-mod tests;
 mod wire;
 
 pub use memory::MemWire;
