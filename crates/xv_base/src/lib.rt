@@ -40,4 +40,3 @@ pub use pattern::{Init, Pattern, UnitOp};
 pub use status::Status;
 pub use text::{LineBuf, LineFault, LineWhy, TextError};
 pub use unit::{DiskShape, Failed, GuestId, NoMemory, UnitId};
-

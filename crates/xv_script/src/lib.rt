@@ -22,4 +22,3 @@ pub use line::Line;
 pub use print::{print_probe, print_turn, push_turn};
 pub use read::read_events;
 pub use word::{Named, Word};
-

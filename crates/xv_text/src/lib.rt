@@ -30,4 +30,3 @@ pub use print::{push_line, push_line_with};
 pub use reading::{Place, ReadsLines, Stop, at_line, read_lines};
 pub use row::{Kind, Row, read_fields};
 pub use words::{TextWord, first_spelled, is_spelled};
-
