@@ -63,7 +63,10 @@ impl<D: Named, Q: Ledger, F: Ledger, R: Ledger> Play<D, Q, F, R> {
     {
         match Shared::<_, _, _, D, Q, F, R>::new(alloc, blanks, machine) {
             Ok((shared, crew)) => Ok(Play { shared, crew }),
-            Err(_) => Err(Fail::from(NoMemory)),
+            Err(machine) => {
+                drop(machine);
+                Err(Fail::from(NoMemory))
+            }
         }
     }
 
@@ -80,7 +83,10 @@ impl<D: Named, Q: Ledger, F: Ledger, R: Ledger> Play<D, Q, F, R> {
     /// Ends the sharing, and tells the report.
     pub(crate) fn close(self) -> Totals {
         let Play { shared, crew } = self;
-        shared.close(crew).totals()
+        let machine = shared.close(crew);
+        let totals = machine.totals();
+        drop(machine);
+        totals
     }
 }
 

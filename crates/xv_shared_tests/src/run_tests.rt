@@ -67,10 +67,15 @@ fn ran<
 {
     let (shared, mut crew) = match Shared::<_, _, _, D, Q, F, R>::new(alloc, blanks, machine) {
         Ok(made) => made,
-        Err(_) => return Err(Fail::from(NoMemory)),
+        Err(machine) => {
+            drop(machine);
+            return Err(Fail::from(NoMemory));
+        }
     };
     run_workers(rt, &shared, &mut crew, gate);
     let mut machine = shared.close(crew);
     let _ = finish(&mut machine);
-    Ok(machine.totals())
+    let totals = machine.totals();
+    drop(machine);
+    Ok(totals)
 }

@@ -189,10 +189,10 @@ fn made(alloc: Global, job: Job, piece: u32) -> Result<Made, NoMemory>
     ensures fit { IfOk result (λ made. AreFit told_wire made) }
 {
     let _ = job.operations();
-    let source = device(alloc, &job, &job.init)?;
-    let dest = device(alloc, &job, &[])?;
     let wires = wires(alloc, &job, piece)?;
     let back = wire(alloc, &job, piece)?;
+    let source = device(alloc, &job, &job.init)?;
+    let dest = device(alloc, &job, &[])?;
     Ok(Parts {
         job,
         source,
@@ -229,8 +229,15 @@ fn replayed(
     }
     let made = made(alloc, job, piece)?;
     match started(alloc, made) {
-        Ok(mut machine) => Ok(replay_on(&mut machine, lines, sink).is_ok()),
-        Err(_made) => Err(Fail::new("no memory twice")),
+        Ok(mut machine) => {
+            let whole = replay_on(&mut machine, lines, sink).is_ok();
+            drop(machine);
+            Ok(whole)
+        }
+        Err(made) => {
+            drop(made);
+            Err(Fail::new("no memory twice"))
+        }
     }
 }
 

@@ -213,7 +213,9 @@ fn status_of(
 /// The status of a run.
 fn status(alloc: Global, words: &[String], source: &mut MemSource, sink: &mut MemSink) -> u8 {
     let mut left = Left::Nothing;
-    status_of(alloc, words, source, sink, &mut left)
+    let status = status_of(alloc, words, source, sink, &mut left);
+    drop(left);
+    status
 }
 
 /// The status of a run with these words.
