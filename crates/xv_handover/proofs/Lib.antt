@@ -4,3 +4,5 @@ pub mod Scripts
 pub mod Sound
 pub mod Told
 pub mod Programs
+pub mod Fronts
+pub mod Beginnings

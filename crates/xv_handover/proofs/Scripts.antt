@@ -226,7 +226,7 @@ goes (e ∷ more) events n few fits =
           ∙ k.events_are ∙ append_assoc events (e ∷ []) more;
     }
 
-script_is_read : (text : List ℕ) (events : List WorldEvent) → IsScript events → text ≡ script_text events → (text_fault text ≡ None) × (text_events text ≡ events)
+pub script_is_read : (text : List ℕ) (events : List WorldEvent) → IsScript events → text ≡ script_text events → (text_fault text ≡ None) × (text_events text ≡ events)
 script_is_read text events h is =
     let few : 0 + length events ≤ event_limit = omega (arith, h.few) in
     let g = goes events [] 1 few h.written in

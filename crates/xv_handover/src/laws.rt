@@ -1,6 +1,9 @@
-//! What holds over every list of events, each as the contract of a function that does nothing.
+//! What holds over every list of events, and over every text, each as the contract of a function that does nothing.
 
-ghost use Rattle.std.specs.Prelude.{◌≡◌, ◌≢◌, ◌≤◌, ◌↔◌, ◌⊎◌, false, ℕ, List, length, Some};
+ghost use Rattle.std.specs.Prelude.{◌≡◌, ◌≢◌, ◌≤◌, ◌↔◌, ◌⊎◌, ◌+◌, ◌++◌, [], false, ℕ, List, length, None, Some};
+ghost use Rattle.xv_base.specs.declared.text.LineWhy.TheVariants.{Unended};
+ghost use Rattle.xv_text.specs.Lines.{whole_lines};
+ghost use Rattle.xv_text.specs.Reading.{at_line};
 ghost use Rattle.xv_handover.specs.declared.world.WorldEvent.{WorldEvent};
 ghost use Rattle.xv_handover.specs.declared.world.WorldEvent.TheVariants.{RestartA, RestartB, Pass};
 ghost use Rattle.xv_handover.specs.declared.message.Message.{Message};
@@ -12,6 +15,8 @@ ghost use Rattle.xv_handover.specs.declared.message.Reply.TheVariants.{Done, Not
 ghost use Rattle.xv_handover.specs.World.{Both, side_a, first_world, step, world_after};
 ghost use Rattle.xv_handover.specs.Safe.{IsSafe, IsSound, HandsOver};
 ghost use Rattle.xv_handover.specs.Crash.{CrashLeaves};
+ghost use Rattle.xv_handover.specs.Lines.{script_text};
+ghost use Rattle.xv_handover.specs.Script.{text_fault, IsScript};
 ghost use Rattle.xv_handover.specs.Program.{Running, Deed, world_of, Happens, IsProgram, left_by, events_of};
 
 /// The nodes never both own the guest, whatever was called, delivered, lost or restarted.
@@ -65,4 +70,16 @@ pub fn pass_waits_for_its_message()
 /// An `Abort` that is sent has the number 0.
 pub fn aborts_have_number_zero()
     ensures { (w : Both) (event : WorldEvent) (sent : Message) → (step w event).1 ≡ Done (Some sent) → sent.kind ≡ Abort → sent.number ≡ 0 }
+{}
+
+/// No text of a script begins that of another: with its line `stop` it is at its end.
+pub fn no_script_begins_another()
+    ensures { (events others : List WorldEvent) (rest : List ℕ) → IsScript events → IsScript others → script_text events ++ rest ≡ script_text others → (events ≡ others) × (rest ≡ []) }
+{}
+
+/// A text that is cut short, wherever it is cut, is refused for the line that it misses: the one behind its whole lines. So it is
+/// with each text that is accepted, and with that of each script.
+pub fn cut_scripts_are_unended()
+    ensures accepted { (front rest : List ℕ) → text_fault (front ++ rest) ≡ None → rest ≢ [] → text_fault front ≡ Some (at_line (length (whole_lines front) + 1) Unended) }
+    ensures spelled { (events : List WorldEvent) (front rest : List ℕ) → IsScript events → script_text events ≡ front ++ rest → rest ≢ [] → text_fault front ≡ Some (at_line (length (whole_lines front) + 1) Unended) }
 {}

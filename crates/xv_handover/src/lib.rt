@@ -6,8 +6,8 @@
 // says, or changes nothing where its keeper failed; the keeper is called once where the table keeps something, and
 // never else; over every list of calls, deliveries and restarts the two nodes never both own the guest; and when
 // node B becomes the owner its number is that of node A's offer. That a handover is ever decided is not promised.
-// A script's text is read as the one list of events that it spells, or refused by its first faulty line; the lines of
-// the answers are stated functions of the events, their answers and the nodes.
+// A script's text is read as the one list of events that it spells, or refused by its first faulty line, and no script's
+// text begins another; the lines of the answers are stated functions of the events, their answers and the nodes.
 #![tactic(auto)]
 
 mod keeper;
@@ -26,9 +26,9 @@ mod world;
 pub use keeper::Keeper;
 pub use kept::{KeptA, KeptB, Stage};
 pub use laws::{
-    aborts_have_number_zero, calls_are_events, crashes_are_restarts, messages_stay_true,
-    never_two_owners, no_event_fails, owner_has_the_offered_number, pass_waits_for_its_message,
-    programs_are_worlds,
+    aborts_have_number_zero, calls_are_events, crashes_are_restarts, cut_scripts_are_unended,
+    messages_stay_true, never_two_owners, no_event_fails, no_script_begins_another,
+    owner_has_the_offered_number, pass_waits_for_its_message, programs_are_worlds,
 };
 pub use memory::MemKeeper;
 pub use message::{Kind, Message, Reply};

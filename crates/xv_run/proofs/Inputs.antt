@@ -19,7 +19,7 @@ use Rattle.xv_top.proofs.Refusals.{lt-is_not}
 use Rattle.xv_run.specs.Refused.{run_fault, IsJob}
 
 -- the fault of what stands behind a text
-abbrev order_at : ℕ → List (List (List ℕ)) → Bool → Option LineFault
+abbrev pub order_at : ℕ → List (List (List ℕ)) → Bool → Option LineFault
 order_at n [] rest = if rest then Some (at_line n Order) else None
 order_at n (l ∷ ls) rest = Some (at_line n Order)
 
@@ -99,26 +99,28 @@ pub bytes-behind : (n b : ℕ) (text : List ℕ) → order_at n (lines_of (b ∷
 bytes-behind n b text = some-by n b text (list_any (λ b. b == 10) (b ∷ text)) refl
 
 -- an input that is not too long
-abbrev alone : List ℕ → Option LineFault
+abbrev pub alone : List ℕ → Option LineFault
 alone bytes = first_fault job_reader true first_draft 1 (lines_of bytes) (has_rest bytes)
 
-short-input : (bytes : List ℕ) → length bytes ≤ input_limit → run_fault bytes ≡ alone bytes
+pub short-input : (bytes : List ℕ) → length bytes ≤ input_limit → run_fault bytes ≡ alone bytes
 short-input bytes within = rw (lt-is_not input_limit (length bytes) within) refl
 
 pub job-fault : (bytes : List ℕ) (fault : LineFault) → length bytes ≤ input_limit → text_fault bytes ≡ Some fault → run_fault bytes ≡ Some fault
 job-fault bytes fault within is = short-input bytes within ∙ within-text job_reader first_draft 1 (lines_of bytes) (has_rest bytes) fault is
 
-behind-job : (bytes behind : List ℕ) (w : Written) (line : ℕ) → length bytes ≤ input_limit → text_fault bytes ≡ None → IsGoodWritten w → bytes ≡ job_text w ++ behind → line ≡ length (job_lines w) + 1 → run_fault bytes ≡ order_at line (lines_of behind) (has_rest behind)
-behind-job bytes behind w line within none good is at =
+pub alone-behind : (bytes behind : List ℕ) (w : Written) (line : ℕ) → text_fault bytes ≡ None → IsGoodWritten w → bytes ≡ job_text w ++ behind → line ≡ length (job_lines w) + 1 → alone bytes ≡ order_at line (lines_of behind) (has_rest behind)
+alone-behind bytes behind w line none good is at =
     let parts = lines_are w behind bytes good is in
     let read = job_read w behind bytes good is in
     let count : line_count job_reader first_draft (lines_of bytes) ≡ length (job_lines w) = ap (λ (ls : List (List (List ℕ))). line_count job_reader first_draft ls) parts ∙ read.count in
     let cut : drop (line_count job_reader first_draft (lines_of bytes)) (lines_of bytes) ≡ lines_of behind =
     ap (λ n. drop n (lines_of bytes)) count ∙ (ap (λ (ls : List (List (List ℕ))). drop (length (job_lines w)) ls) parts ∙ drop-append_seam (job_lines w) (lines_of behind)) in
-    short-input bytes within
-    ∙ (behind-text job_reader first_draft 1 line (lines_of bytes) (has_rest bytes) (omega (arith, at, count)) none
+    behind-text job_reader first_draft 1 line (lines_of bytes) (has_rest bytes) (omega (arith, at, count)) none
     ∙ (ap (λ (ls : List (List (List ℕ))). order_at line ls (has_rest bytes)) cut
-    ∙ ap (λ (r : Bool). order_at line (lines_of behind) r) (rest_is w behind bytes is)))
+    ∙ ap (λ (r : Bool). order_at line (lines_of behind) r) (rest_is w behind bytes is))
+
+behind-job : (bytes behind : List ℕ) (w : Written) (line : ℕ) → length bytes ≤ input_limit → text_fault bytes ≡ None → IsGoodWritten w → bytes ≡ job_text w ++ behind → line ≡ length (job_lines w) + 1 → run_fault bytes ≡ order_at line (lines_of behind) (has_rest behind)
+behind-job bytes behind w line within none good is at = short-input bytes within ∙ alone-behind bytes behind w line none good is at
 
 joined : (text front : List ℕ) (n : ℕ) → take n text ≡ front → text ≡ front ++ drop n text
 joined text front n is = sym (take-append-drop n text) ∙ ap (λ xs. xs ++ drop n text) is

@@ -1,6 +1,7 @@
 pub mod Workers
 pub mod Ended
 pub mod Inputs
+pub mod Beginnings
 pub mod Lines
 pub mod GuestReads
 pub mod Sums

@@ -8,6 +8,7 @@ pub mod Answered
 pub mod Ran
 pub mod Refusals
 pub mod Handovers
+pub mod Fronts
 pub mod Agreeing
 pub mod Unmigrated
 pub mod Driven

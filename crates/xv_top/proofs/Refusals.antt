@@ -36,23 +36,25 @@ pub short-input : (bytes : List ℕ) → length bytes ≤ input_limit → input_
 short-input bytes within = rw (lt-is_not input_limit (length bytes) within) refl
 
 -- where the job has none, the fault of what stands behind it is the input's
-pub fault-behind : (bytes behind : List ℕ) (w : Written) → length bytes ≤ input_limit → job_text_fault bytes ≡ None → job_said (lines_of bytes) ≡ w → job_length (lines_of bytes) ≡ length (job_lines w) → lines_of bytes ≡ job_lines w ++ lines_of behind → has_rest bytes ≡ has_rest behind → input_fault bytes ≡ text_fault (counts_of (job_of w)) (length (job_lines w) + 1) behind
-fault-behind bytes behind w within none said long parts rest =
+lines_fault-behind : (bytes behind : List ℕ) (w : Written) → job_text_fault bytes ≡ None → job_said (lines_of bytes) ≡ w → job_length (lines_of bytes) ≡ length (job_lines w) → lines_of bytes ≡ job_lines w ++ lines_of behind → has_rest bytes ≡ has_rest behind → job_lines_fault (lines_of bytes) (has_rest bytes) ≡ text_fault (counts_of (job_of w)) (length (job_lines w) + 1) behind
+lines_fault-behind bytes behind w none said long parts rest =
     let cut : script_lines (lines_of bytes) ≡ lines_of behind =
     ap (λ n. drop n (lines_of bytes)) long ∙ (ap (λ (ls : List (List (List ℕ))). drop (length (job_lines w)) ls) parts ∙ drop-append_seam (job_lines w) (lines_of behind)) in
-    short-input bytes within
-    ∙ (ap (λ (f : Option LineFault). fault_or f (first_fault (script_reader (job_of (job_said (lines_of bytes)))) true first_script (job_length (lines_of bytes) + 1) (script_lines (lines_of bytes)) (has_rest bytes))) none
+    ap (λ (f : Option LineFault). fault_or f (first_fault (script_reader (job_of (job_said (lines_of bytes)))) true first_script (job_length (lines_of bytes) + 1) (script_lines (lines_of bytes)) (has_rest bytes))) none
     ∙ (ap (λ (x : Written). first_fault (script_reader (job_of x)) true first_script (job_length (lines_of bytes) + 1) (script_lines (lines_of bytes)) (has_rest bytes)) said
     ∙ (ap (λ (n : ℕ). first_fault (script_reader (job_of w)) true first_script (n + 1) (script_lines (lines_of bytes)) (has_rest bytes)) long
     ∙ (ap (λ (ls : List (List (List ℕ))). first_fault (script_reader (job_of w)) true first_script (length (job_lines w) + 1) ls (has_rest bytes)) cut
-    ∙ ap (λ (r : Bool). first_fault (script_reader (job_of w)) true first_script (length (job_lines w) + 1) (lines_of behind) r) rest))))
+    ∙ ap (λ (r : Bool). first_fault (script_reader (job_of w)) true first_script (length (job_lines w) + 1) (lines_of behind) r) rest)))
 
-pub fault-behind_job : (bytes behind : List ℕ) (w : Written) → length bytes ≤ input_limit → job_text_fault bytes ≡ None → IsGoodWritten w → bytes ≡ job_text w ++ behind → input_fault bytes ≡ text_fault (counts_of (job_of w)) (length (job_lines w) + 1) behind
-fault-behind_job bytes behind w within none good is =
+pub lines_fault-behind_job : (bytes behind : List ℕ) (w : Written) → job_text_fault bytes ≡ None → IsGoodWritten w → bytes ≡ job_text w ++ behind → job_lines_fault (lines_of bytes) (has_rest bytes) ≡ text_fault (counts_of (job_of w)) (length (job_lines w) + 1) behind
+lines_fault-behind_job bytes behind w none good is =
     let parts = lines_are w behind bytes good is in
     let read = job_read w behind bytes good is in
-    fault-behind bytes behind w within none (job_is_said w behind bytes good is)
+    lines_fault-behind bytes behind w none (job_is_said w behind bytes good is)
     (ap (λ (ls : List (List (List ℕ))). job_length ls) parts ∙ read.count) parts (rest_is w behind bytes is)
+
+pub fault-behind_job : (bytes behind : List ℕ) (w : Written) → length bytes ≤ input_limit → job_text_fault bytes ≡ None → IsGoodWritten w → bytes ≡ job_text w ++ behind → input_fault bytes ≡ text_fault (counts_of (job_of w)) (length (job_lines w) + 1) behind
+fault-behind_job bytes behind w within none good is = short-input bytes within ∙ lines_fault-behind_job bytes behind w none good is
 
 -- a text has no more lines than bytes
 before-length : (b : ℕ) (items : List (List ℕ)) → length (before_first b items) ≡ length items

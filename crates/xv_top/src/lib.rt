@@ -23,7 +23,7 @@ mod refusal;
 
 pub use command::Form;
 pub use input::{InputError, read_bytes};
-pub use laws::answered_lines_are_those_read;
+pub use laws::{answered_lines_are_those_read, cut_handovers_are_unended, cut_inputs_are_unended};
 pub use output::{hand_on, layout_of};
 pub use playing::replay_on;
 pub use program::{Left, leave, top};
