@@ -5,6 +5,7 @@ ghost use Rattle.xv_device.specs.Told.{MayCall, HasRoomToCount};
 ghost use Rattle.xv_device.specs.Memory.{told};
 
 use std::alloc::Global;
+use std::process::Abort;
 use std::test::Fail;
 use xv_base::{DiskShape, Failed, Init, Layout, Pattern, UnitId, UnitOp};
 use xv_device::{DevicePlan, MemDevice, UnitDevice, operate};
@@ -26,12 +27,14 @@ fn changes_one_unit_beside_its_neighbours(rt: HostRuntime) -> Result<(), Fail> {
         pattern: Pattern::new(b"cd"),
     }];
     let mut device = MemDevice::new(alloc, &layout, &init, plan(alloc, 0, 0, 0)?)?;
-    device.patch(UnitId(1), 0, b"ab")?;
-    device.patch(UnitId(1), 14, b"yz")?;
+    let first = device.patch(UnitId(1), 0, b"ab");
+    let second = device.patch(UnitId(1), 14, b"yz");
+    assert_eq!(rt; (first, second), (Ok(()), Ok(())));
     assert_eq!(rt; device.content(UnitId(0)), [0; 16].as_slice());
     assert_eq!(rt; device.content(UnitId(1)), b"abcdcdcdcdcdcdyz".as_slice());
     assert_eq!(rt; device.content(UnitId(2)), [0; 16].as_slice());
     assert_eq!(rt; device.written(UnitId(1)), 2);
+    drop(device);
     Ok(())
 }
 
@@ -49,6 +52,7 @@ fn fails_at_the_planned_calls(rt: HostRuntime) -> Result<(), Fail> {
     assert_eq!(rt; device.content(UnitId(0)), b"0123456789abcdef".as_slice());
     assert_eq!(rt; device.flush(), Err(Failed));
     assert_eq!(rt; flush_through(&mut device), Ok(()));
+    drop(device);
     Ok(())
 }
 
@@ -60,30 +64,50 @@ fn failing(alloc: Global, number: u32) -> Result<MemDevice, Fail>
     Ok(MemDevice::new(alloc, &layout, &[], plan(alloc, number, number, number)?)?)
 }
 
-/// Which of the first two calls of each kind fail, where those of one number are to.
-fn failed(alloc: Global, number: u32) -> Result<[[bool; 2]; 3], Fail> {
+/// Which of the first two reads fail, where those of one number are to.
+fn failed_reads(alloc: Global, number: u32) -> Result<[bool; 2], Fail> {
     let mut device = failing(alloc, number)?;
     let mut into = [9; 2];
-    let reads = [
-        device.read(UnitId(0), 14, &mut into).is_err(),
-        device.read(UnitId(0), 0, &mut into).is_err(),
-    ];
-    let mut device = failing(alloc, number)?;
-    let flushes = [device.flush().is_err(), device.flush().is_err()];
+    let first = device.read(UnitId(0), 14, &mut into).is_err();
+    let second = device.read(UnitId(0), 0, &mut into).is_err();
+    drop(device);
+    Ok([first, second])
+}
+
+/// Which of the first two writes fail, where those of one number are to.
+fn failed_writes(alloc: Global, number: u32) -> Result<[bool; 2], Fail> {
     let mut device = failing(alloc, number)?;
     let writes = match device.write(UnitId(0), b"0123456789abcdef") {
         Ok(()) => [false, device.patch(UnitId(0), 15, b"-").is_err()],
         Err(Failed) => [true, device.patch(UnitId(0), 15, b"-").is_err()],
     };
-    Ok([reads, writes, flushes])
+    drop(device);
+    Ok(writes)
+}
+
+/// Which of the first two flushes fail, where those of one number are to.
+fn failed_flushes(alloc: Global, number: u32) -> Result<[bool; 2], Fail> {
+    let mut device = failing(alloc, number)?;
+    let first = device.flush().is_err();
+    let second = device.flush().is_err();
+    drop(device);
+    Ok([first, second])
+}
+
+/// Compares which of the first two calls of each kind fail, where those of one number are to.
+fn fails_so(rt: &impl Abort, alloc: Global, number: u32, want: [bool; 2]) -> Result<(), Fail> {
+    let reads = failed_reads(alloc, number)?;
+    let writes = failed_writes(alloc, number)?;
+    let flushes = failed_flushes(alloc, number)?;
+    assert_eq!(rt; [reads, writes, flushes], [want; 3], "call {number}");
+    Ok(())
 }
 
 #[test]
 fn fails_at_the_number_of_its_plan_alone(rt: HostRuntime) -> Result<(), Fail> {
-    for (number, want) in [(1, [true, false]), (2, [false, true]), (3, [false, false])] {
-        assert_eq!(rt; failed(rt.alloc(), number)?, [want; 3], "call {number}");
-    }
-    Ok(())
+    fails_so(&rt, rt.alloc(), 1, [true, false])?;
+    fails_so(&rt, rt.alloc(), 2, [false, true])?;
+    fails_so(&rt, rt.alloc(), 3, [false, false])
 }
 
 /// Flushes any device.
@@ -95,23 +119,47 @@ fn flush_through<D: UnitDevice>(device: &mut D) -> Result<(), Failed>
 
 #[test]
 fn carries_out_operations(rt: HostRuntime) -> Result<(), Fail> {
-    let alloc = rt.alloc();
     let layout = Layout::new(2, 16, &[])?;
-    let mut into = [0; 3];
-    let mut device = one_filled(alloc, &layout)?;
-    carry_out(
-        &mut device,
+    carries_out(
+        &rt,
+        rt.alloc(),
         &layout,
         1,
         Some(Pattern::new(b"ab")),
-        &mut into,
+        b"cabacdcdcdcdcdcd",
+        &[0; 3],
     )?;
-    assert_eq!(rt; device.content(UnitId(1)), b"cabacdcdcdcdcdcd".as_slice());
-    assert_eq!(rt; into.as_slice(), [0; 3].as_slice());
-    let mut device = one_filled(alloc, &layout)?;
-    carry_out(&mut device, &layout, 3, None, &mut into)?;
-    assert_eq!(rt; device.content(UnitId(1)), b"cdcdcdcdcdcdcdcd".as_slice());
-    assert_eq!(rt; into.as_slice(), b"dcd".as_slice());
+    carries_out(
+        &rt,
+        rt.alloc(),
+        &layout,
+        3,
+        None,
+        b"cdcdcdcdcdcdcdcd",
+        b"dcd",
+    )
+}
+
+/// Carries out an operation on a device whose unit 1 is filled, and compares that unit and what was read.
+fn carries_out(
+    rt: &impl Abort,
+    alloc: Global,
+    layout: &Layout,
+    offset: u32,
+    write: Option<Pattern>,
+    unit: &[u8],
+    read: &[u8],
+) -> Result<(), Fail>
+    requires shape { layout.now ≡ shape_of 2 16 [] }
+    requires within { offset ≤ 13 }
+{
+    let mut into = [0; 3];
+    let mut device = one_filled(alloc, layout)?;
+    let done = carry_out(&mut device, layout, offset, write, &mut into);
+    assert_eq!(rt; done, Ok(()));
+    assert_eq!(rt; device.content(UnitId(1)), unit);
+    assert_eq!(rt; into.as_slice(), read);
+    drop(device);
     Ok(())
 }
 
