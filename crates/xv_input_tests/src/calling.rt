@@ -100,7 +100,13 @@ impl Answer {
 }
 
 /// Whether an input is refused by this line and this reason.
-pub(crate) fn is_refused(alloc: Global, words: &[&str], input: &[u8], line: u32, why: &str) -> bool {
+pub(crate) fn is_refused(
+    alloc: Global,
+    words: &[&str],
+    input: &[u8],
+    line: u32,
+    why: &str,
+) -> bool {
     match format!(in alloc; "refused line {line} {why}\n") {
         Ok(refusal) => call(alloc, words, input, WHOLE).is(2, refusal.as_bytes()),
         Err(_) => false,

@@ -19,7 +19,11 @@ fn calls(bytes: usize, piece: u32) -> u32 {
 fn wrong_read(alloc: Global, sample: &Sample, gives: u32) -> Option<u32> {
     let reads = calls(sample.input.len(), gives).saturating_add(1);
     for read in 1..=reads {
-        let edges = Edges { gives, read, ..WHOLE };
+        let edges = Edges {
+            gives,
+            read,
+            ..WHOLE
+        };
         if !call(alloc, sample.words, sample.input, edges).is(3, b"") {
             return Some(read);
         }
@@ -30,14 +34,20 @@ fn wrong_read(alloc: Global, sample: &Sample, gives: u32) -> Option<u32> {
 /// Whether all is written where a read fails that no call makes.
 fn reads_no_more(alloc: Global, sample: &Sample, gives: u32) -> bool {
     let read = calls(sample.input.len(), gives).saturating_add(2);
-    let edges = Edges { gives, read, ..WHOLE };
+    let edges = Edges {
+        gives,
+        read,
+        ..WHOLE
+    };
     call(alloc, sample.words, sample.input, edges).is(sample.status, sample.output)
 }
 
 fn read_faults_are_told(alloc: Global, sample: &Sample) -> bool {
     let mut told = true;
     for &gives in PIECES {
-        told = told && wrong_read(alloc, sample, gives).is_none() && reads_no_more(alloc, sample, gives);
+        told = told
+            && wrong_read(alloc, sample, gives).is_none()
+            && reads_no_more(alloc, sample, gives);
     }
     told
 }
@@ -61,7 +71,11 @@ fn tells_each_read_that_fails(rt: HostRuntime) {
 fn wrong_room(alloc: Global, sample: &Sample, takes: u32) -> Option<usize> {
     for (room, _) in sample.output.iter().enumerate() {
         let front = sample.output.get(..room).unwrap_or(sample.output);
-        let edges = Edges { takes, room: u32::try_from(room).unwrap_or(ROOM), ..WHOLE };
+        let edges = Edges {
+            takes,
+            room: u32::try_from(room).unwrap_or(ROOM),
+            ..WHOLE
+        };
         if !call(alloc, sample.words, sample.input, edges).is(4, front) {
             return Some(room);
         }
@@ -72,7 +86,11 @@ fn wrong_room(alloc: Global, sample: &Sample, takes: u32) -> Option<usize> {
 /// Whether all is written where the output has just enough room.
 fn needs_no_more_room(alloc: Global, sample: &Sample, takes: u32) -> bool {
     let room = u32::try_from(sample.output.len()).unwrap_or(0);
-    let edges = Edges { takes, room, ..WHOLE };
+    let edges = Edges {
+        takes,
+        room,
+        ..WHOLE
+    };
     call(alloc, sample.words, sample.input, edges).is(sample.status, sample.output)
 }
 
@@ -80,8 +98,15 @@ fn needs_no_more_room(alloc: Global, sample: &Sample, takes: u32) -> bool {
 /// last call is the flush, before which all was written.
 fn wrong_write(alloc: Global, sample: &Sample) -> Option<u32> {
     for write in 1..=calls(sample.output.len(), 1).saturating_add(1) {
-        let front = sample.output.get(..write as usize - 1).unwrap_or(sample.output);
-        let edges = Edges { takes: 1, write, ..WHOLE };
+        let front = sample
+            .output
+            .get(..write as usize - 1)
+            .unwrap_or(sample.output);
+        let edges = Edges {
+            takes: 1,
+            write,
+            ..WHOLE
+        };
         if !call(alloc, sample.words, sample.input, edges).is(4, front) {
             return Some(write);
         }

@@ -1,5 +1,5 @@
 // Tests of the program over an input that ends early or is no text, and over an input and an output that fail: each front of an
-// input, each call of both edges and each number of bytes in turn, and each limit of a line. They stand apart so that the program
+// input, each call of both edges and each number of bytes in turn. They stand apart so that the program
 // is not proved again for them.
 #![tactic(auto)]
 
@@ -7,8 +7,6 @@
 mod calling;
 #[cfg(test)]
 mod edge_tests;
-#[cfg(test)]
-mod limit_tests;
 #[cfg(test)]
 mod odd_tests;
 #[cfg(test)]

@@ -72,6 +72,9 @@ fn is_answered(
 fn reads_up_to_a_limit(rt: HostRuntime) {
     for &(input, gives, read, limit, want) in CASES {
         let answered = is_answered(rt.alloc(), input, gives, read, limit, want);
-        assert!(rt; answered, "{input:?} by {gives}, fault {read}, limit {limit}");
+        assert!(rt;
+            answered,
+            "{input:?} by {gives}, fault {read}, limit {limit}"
+        );
     }
 }
