@@ -174,7 +174,7 @@ fn put_guests(machine: &Machine, dice: &mut Dice, text: &mut Vec<u8>) -> u64 {
     let mut operations = 0u64;
     for _guest in 0..machine.guests {
         put_line(text, b"guest", &[]);
-        for _operation in 0..dice.few(0, 6) {
+        for _operation in 0..dice.few(0, 16) {
             operations = operations.wrapping_add(put_operation(machine, dice, text));
         }
     }

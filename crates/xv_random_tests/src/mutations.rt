@@ -24,6 +24,9 @@ const LIMITS: &[(&[u8], u64)] = &[
     (b"fault", 4_294_967_295),
     (b"image", 4_294_967_295),
     (b"pass", 4_294_967_295),
+    (b"st ", 4096),
+    (b"ld ", 64),
+    (b"rd ", 64),
 ];
 
 /// Numbers at which something ends.
@@ -132,9 +135,12 @@ fn put_lines_exchanged(dice: &mut Dice, text: &[u8], at: usize, out: &mut Vec<u8
     put(out, behind(rest, line_end(rest, other)));
 }
 
-/// Sets the first number behind a place to a limit, or to one past it.
+/// Sets one of the next numbers behind a place to a limit, or to one past it.
 fn put_number_changed(dice: &mut Dice, text: &[u8], at: usize, out: &mut Vec<u8>) {
-    let start = at.wrapping_add(number_start(behind(text, at)));
+    let mut start = next_number(text, at);
+    for _number in 0..dice.below(4) {
+        start = next_number(text, start);
+    }
     let digits = behind(text, start);
     let count = match digits.iter().position(|byte| !byte.is_ascii_digit()) {
         Some(count) => count,
@@ -146,7 +152,12 @@ fn put_number_changed(dice: &mut Dice, text: &[u8], at: usize, out: &mut Vec<u8>
     put(out, behind(digits, count));
 }
 
-/// Where the first number of a text begins, behind a space; at the end where there is none.
+/// Where the next number from a place on begins, behind a space; where there is none, at the end.
+fn next_number(text: &[u8], from: usize) -> usize {
+    from.wrapping_add(number_start(behind(text, from)))
+}
+
+/// Where the first number of a text begins, behind a space in it; at the end where there is none.
 fn number_start(text: &[u8]) -> usize {
     let mut after_space = false;
     for (place, byte) in text.iter().enumerate() {
