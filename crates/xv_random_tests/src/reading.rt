@@ -31,6 +31,8 @@ pub(crate) enum Found {
     RefusedElsewhere,
     /// Read in pieces it is another text.
     ReadOtherwise,
+    /// Nothing is known, for want of memory.
+    NoMemory,
 }
 
 /// The numbers of bytes that a read may give at most.
@@ -43,7 +45,7 @@ pub(crate) fn check(alloc: Global, kind: Kind, text: &[u8]) -> (Option<TextError
         None if printed.as_slice() != text => Found::PrintedOtherwise,
         None => Found::AllWell,
         Some(TextError::Fault(fault)) => check_refusal(alloc, kind, text, fault),
-        Some(TextError::NoMemory) => Found::AllWell,
+        Some(TextError::NoMemory) => Found::NoMemory,
     };
     if found == Found::AllWell && !is_read_in_pieces(alloc, text) {
         return (fault, Found::ReadOtherwise);
@@ -126,10 +128,10 @@ fn read_input(alloc: Global, text: &[u8]) -> (Option<TextError>, Vec<u8>) {
     (fault, printed)
 }
 
-/// The length of no text and the number of no line of these tests.
+/// More than any text of these tests has bytes or lines.
 const MOST: usize = 1 << 20;
 
-/// A script of a job, whose first line has this number.
+/// A script of a job, whose first line has this number. A longer one than there is counts as want of memory.
 #[tactic(auto, using(crate::proofs::Few::few))]
 fn read_script(
     alloc: Global,
