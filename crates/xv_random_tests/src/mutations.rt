@@ -48,7 +48,7 @@ const EDGES: &[u64] = &[
 /// The text with one change.
 pub(crate) fn mutated(alloc: Global, dice: &mut Dice, text: &[u8]) -> Vec<u8> {
     let mut out = Vec::new(alloc);
-    let at = dice.below(text.len() as u64) as usize;
+    let at = place_in(dice, text);
     match dice.below(6) {
         0 => put_byte_changed(dice, text, at, &mut out),
         1 => put_line_dropped(text, at, &mut out),
@@ -58,6 +58,16 @@ pub(crate) fn mutated(alloc: Global, dice: &mut Dice, text: &[u8]) -> Vec<u8> {
         _ => put(&mut out, front(text, at)),
     }
     out
+}
+
+/// A place of a text, which is the first in one of eight throws, and the last in another.
+fn place_in(dice: &mut Dice, text: &[u8]) -> usize {
+    let any = dice.below(text.len() as u64) as usize;
+    match dice.below(8) {
+        0 => 0,
+        1 => text.len().saturating_sub(1),
+        _ => any,
+    }
 }
 
 /// The first bytes, so many of them or all.
