@@ -44,7 +44,11 @@ fn run_plain(alloc: Global, job: &Job, history: &History) -> Result<PlainGuest, 
 }
 
 /// The device that has the guests.
-fn owner(machine: &Machine) -> &MemDevice {
+fn owner(machine: &Machine) -> &MemDevice
+    ensures { result.now.shape ≡ machine.now.job.shape }
+{
+    // That both devices have the job's units is told with the journal.
+    let _ = machine.journal();
     if machine.phase() == Phase::Switched {
         machine.dest()
     } else {
@@ -53,7 +57,9 @@ fn owner(machine: &Machine) -> &MemDevice {
 }
 
 /// Whether a device holds in each unit what these guests leave.
-fn holds(device: &MemDevice, plain: &PlainGuest) -> bool {
+fn holds(device: &MemDevice, plain: &PlainGuest) -> bool
+    requires { plain.now.shape ≡ device.now.shape }
+{
     for unit in 0..device.layout().units() {
         if device.content(UnitId(unit)) != plain.content(UnitId(unit)) {
             return false;
