@@ -1,5 +1,5 @@
-//! Jobs, and the calls that their runs by the driver make where none fails: derived by hand from what each event does, in the
-//! driver's order.
+//! Jobs, and the calls that their runs by the driver make where none fails: worked out from what each event does, in the driver's
+//! order, and not from a run of the program.
 
 use crate::calls::Call;
 use std::alloc::Global;
@@ -82,7 +82,9 @@ pub(crate) struct Case {
     pub(crate) failing: u32,
 }
 
-/// Two guests with two operations each, and three streams, of which the first two carry messages: four blocks and a page.
+/// Two guests with two operations each, and three streams, of which the first two carry messages. Four blocks, a page and a
+/// load are read at the source; both writes come ahead of the copy and the store before the round, so that each unit is sent
+/// once.
 pub(crate) const TWO_GUESTS: Case = Case {
     name: "two guests",
     head: "job 1\npages 1 16\ndisk 4 16\nstreams 3\ncredit 8\noutbox 8\nregion 2\nrounds 2\ndirty 0\n",
@@ -92,7 +94,8 @@ pub(crate) const TWO_GUESTS: Case = Case {
     failing: 25,
 };
 
-/// The same in groups of two. A round beside the first region sends the page, and a later one sends it again.
+/// The same in groups of two. A round beside the first region sends the page, and after the store another sends it again: a
+/// read and a message more, and four groups, the page alone and then two, two and one.
 pub(crate) const IN_GROUPS: Case = Case {
     name: "two guests, in groups",
     head: "job 2\npages 1 16\ndisk 4 16\nstreams 3\ncredit 8\noutbox 8\nregion 2\nrounds 2\ndirty 0\ngroup 2\n",
