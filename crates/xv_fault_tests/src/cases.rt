@@ -105,9 +105,22 @@ pub(crate) const IN_GROUPS: Case = Case {
     failing: 25,
 };
 
+/// Two guests that write a block ahead of its copy, then within its region, where both wait in the queue and are mirrored once
+/// they are released, and at the destination, where the last write and the last read are. Two blocks and a page are read at the
+/// source and sent once, and the mirrors after them.
+pub(crate) const WITH_QUEUE: Case = Case {
+    name: "two guests, ahead of the copy, in its queue, and at the destination",
+    head: "job 1\npages 1 16\ndisk 2 16\nstreams 1\ncredit 2\noutbox 2\nregion 2\nrounds 1\ndirty 0\n",
+    tail: "guest\nwr 0 0 1 11\nwr 0 0 1 12\nguest\nst 0 4 33\nrd 0 0 0 4\nwr 0 0 1 22\nwr 0 1 1 23\nrd 0 1 0 2\nend\n",
+    phase: Phase::Switched,
+    counts: &[4, 4, 1, 6, 1, 3, 3, 5, 5],
+    failing: 25,
+};
+
 pub(crate) const CASES: &[Case] = &[
     TWO_GUESTS,
     IN_GROUPS,
+    WITH_QUEUE,
     Case {
         name: "two guests, cancelled after three operations",
         head: "job 1\npages 1 16\ndisk 4 16\nstreams 3\ncredit 8\noutbox 8\nregion 2\nrounds 2\ndirty 0\ncancel 3\n",

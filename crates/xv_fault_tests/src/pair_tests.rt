@@ -1,12 +1,12 @@
 //! Each two calls that the run of a job makes are planned to fail together, and each with one behind the last of a kind. The
 //! second may then be made no more.
 
-use crate::cases::{Case, IN_GROUPS, Line, TWO_GUESTS, lines_of};
+use crate::cases::{Case, IN_GROUPS, Line, TWO_GUESTS, WITH_QUEUE, lines_of};
 use crate::runs::{Findings, found, text_with_both};
 use std::alloc::Global;
 use std::test::Fail;
 
-const CASES: &[Case] = &[TWO_GUESTS, IN_GROUPS];
+const CASES: &[Case] = &[TWO_GUESTS, IN_GROUPS, WITH_QUEUE];
 
 /// What is seen of a run with two planned faults.
 fn found_with(alloc: Global, case: &Case, one: &Line, other: &Line) -> Result<Findings, Fail> {
