@@ -12,6 +12,8 @@ mod large_tests;
 #[cfg(test)]
 mod order_tests;
 #[cfg(test)]
+mod planned_tests;
+#[cfg(test)]
 mod playing;
 #[cfg(test)]
 mod printed;
