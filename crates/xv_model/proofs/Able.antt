@@ -62,26 +62,26 @@ no_mirror job v op e = rw e refl
 pub guest_acts_alone : (job : Job) (v : View) (g : ℕ) → g < guest_count job → ended v.history g < length (trace job g) → in_queue v.disks g ≡ false → cancel_due job v ≡ false → is_stunned v.phase ≡ false → is_running v.phase ≡ false → SomeActs job v
 guest_acts_alone job v g there more queue due stunned still = guest_acts job v g there more queue due stunned (and_left (is_mirror (next_aim job v g)) (is_full job v) (no_mirror job v (next_operation job v g) still))
 
-pub begin_acts : (job : Job) (v : View) (d : ℕ) → d < length job.shape.disks → is_running v.phase ≡ true → is_copied (blocks job.shape.disks d) (disk v d) ≡ false → (disk v d).region ≡ 0 → is_empty (disk v d).queue ≡ true → SomeActs job v
+pub begin_acts : (job : Job) (v : View) (d : ℕ) → d < length job.copy.disks → is_running v.phase ≡ true → is_copied (blocks job.copy.disks d) (disk v d) ≡ false → (disk v d).region ≡ 0 → is_empty (disk v d).queue ≡ true → SomeActs job v
 begin_acts job v d there running copied region queue = record {
   event = Begin d;
-  fitting = lt-ltb d (length job.shape.disks) there;
-  acts = two_pass (not (is_running v.phase)) (is_copied (blocks job.shape.disks d) (disk v d) || not ((disk v d).region == 0) || not (is_empty (disk v d).queue)) NotNow NotNow
+  fitting = lt-ltb d (length job.copy.disks) there;
+  acts = two_pass (not (is_running v.phase)) (is_copied (blocks job.copy.disks d) (disk v d) || not ((disk v d).region == 0) || not (is_empty (disk v d).queue)) NotNow NotNow
       (not_from_true _ running)
-      (none_of_three (is_copied (blocks job.shape.disks d) (disk v d)) (not ((disk v d).region == 0)) (not (is_empty (disk v d).queue)) copied (not_from_true _ (eq-eqb (disk v d).region 0 region)) (not_from_true _ queue));
+      (none_of_three (is_copied (blocks job.copy.disks d) (disk v d)) (not ((disk v d).region == 0)) (not (is_empty (disk v d).queue)) copied (not_from_true _ (eq-eqb (disk v d).region 0 region)) (not_from_true _ queue));
 }
 
-pub read_acts : (job : Job) (v : View) (d : ℕ) → d < length job.shape.disks → is_running v.phase ≡ true → (disk v d).got < (disk v d).region → SomeActs job v
+pub read_acts : (job : Job) (v : View) (d : ℕ) → d < length job.copy.disks → is_running v.phase ≡ true → (disk v d).got < (disk v d).region → SomeActs job v
 read_acts job v d there running more = record {
   event = Read d;
-  fitting = lt-ltb d (length job.shape.disks) there;
+  fitting = lt-ltb d (length job.copy.disks) there;
   acts = two_pass (not (is_running v.phase)) (nat_le (disk v d).region (disk v d).got) NotNow NotNow (not_from_true _ running) (lt-leb (disk v d).region (disk v d).got more);
 }
 
-pub advance_acts : (job : Job) (v : View) (d : ℕ) → d < length job.shape.disks → is_running v.phase ≡ true → 0 < (disk v d).region → (disk v d).region ≤ (disk v d).got → (disk v d).region ≤ room job v → SomeActs job v
+pub advance_acts : (job : Job) (v : View) (d : ℕ) → d < length job.copy.disks → is_running v.phase ≡ true → 0 < (disk v d).region → (disk v d).region ≤ (disk v d).got → (disk v d).region ≤ room job v → SomeActs job v
 advance_acts job v d there running some all fitting = record {
   event = Advance d;
-  fitting = lt-ltb d (length job.shape.disks) there;
+  fitting = lt-ltb d (length job.copy.disks) there;
   acts = three_pass (not (is_running v.phase)) (((disk v d).region == 0) || nat_lt (disk v d).got (disk v d).region) (nat_lt (room job v) (disk v d).region) NotNow NotNow Throttled
       (not_from_true _ running)
       (or_from ((disk v d).region == 0) (nat_lt (disk v d).got (disk v d).region) (ne_eqb (disk v d).region 0 (omega (arith, some))) (le-ltb (disk v d).got (disk v d).region all))
@@ -89,23 +89,23 @@ advance_acts job v d there running some all fitting = record {
 }
 
 -- a region can be read on or given up as behind, where the outbox has room for it
-pub region_acts : (job : Job) (v : View) (d : ℕ) → d < length job.shape.disks → is_running v.phase ≡ true → 0 < (disk v d).region → (disk v d).region ≤ room job v → SomeActs job v
+pub region_acts : (job : Job) (v : View) (d : ℕ) → d < length job.copy.disks → is_running v.phase ≡ true → 0 < (disk v d).region → (disk v d).region ≤ room job v → SomeActs job v
 region_acts job v d there running some fitting = elim (cases_lt (disk v d).got (disk v d).region) [
   | inl more ↦ read_acts job v d there running more
   | inr all ↦ advance_acts job v d there running some all fitting
 ]
 
-pub release_acts : (job : Job) (v : View) (d : ℕ) → d < length job.shape.disks → is_empty (disk v d).queue ≡ false → cancel_due job v ≡ false → (is_running v.phase && is_inside (disk v d) (block_of job.shape (front (disk v d)).unit.0)) ≡ false → (is_running v.phase && is_full job v) ≡ false → SomeActs job v
+pub release_acts : (job : Job) (v : View) (d : ℕ) → d < length job.copy.disks → is_empty (disk v d).queue ≡ false → cancel_due job v ≡ false → (is_running v.phase && is_inside (disk v d) (block_of job.copy (front (disk v d)).unit.0)) ≡ false → (is_running v.phase && is_full job v) ≡ false → SomeActs job v
 release_acts job v d there queue due inside room = record {
   event = Release d;
-  fitting = lt-ltb d (length job.shape.disks) there;
-  acts = four_pass (is_empty (disk v d).queue) (cancel_due job v) (is_running v.phase && is_inside (disk v d) (block_of job.shape (front (disk v d)).unit.0)) (is_running v.phase && is_full job v) NothingThere CancelDue NotNow Throttled queue due inside room;
+  fitting = lt-ltb d (length job.copy.disks) there;
+  acts = four_pass (is_empty (disk v d).queue) (cancel_due job v) (is_running v.phase && is_inside (disk v d) (block_of job.copy (front (disk v d)).unit.0)) (is_running v.phase && is_full job v) NothingThere CancelDue NotNow Throttled queue due inside room;
 }
 
-pub release_acts_alone : (job : Job) (v : View) (d : ℕ) → d < length job.shape.disks → is_empty (disk v d).queue ≡ false → cancel_due job v ≡ false → is_running v.phase ≡ false → SomeActs job v
+pub release_acts_alone : (job : Job) (v : View) (d : ℕ) → d < length job.copy.disks → is_empty (disk v d).queue ≡ false → cancel_due job v ≡ false → is_running v.phase ≡ false → SomeActs job v
 release_acts_alone job v d there queue due still = release_acts job v d there queue due (and_left (is_running v.phase) _ still) (and_left (is_running v.phase) (is_full job v) still)
 
-pub release_acts_with_room : (job : Job) (v : View) (d : ℕ) → d < length job.shape.disks → is_empty (disk v d).queue ≡ false → cancel_due job v ≡ false → is_inside (disk v d) (block_of job.shape (front (disk v d)).unit.0) ≡ false → length v.outbox.messages < job.config.outbox → SomeActs job v
+pub release_acts_with_room : (job : Job) (v : View) (d : ℕ) → d < length job.copy.disks → is_empty (disk v d).queue ≡ false → cancel_due job v ≡ false → is_inside (disk v d) (block_of job.copy (front (disk v d)).unit.0) ≡ false → length v.outbox.messages < job.config.outbox → SomeActs job v
 release_acts_with_room job v d there queue due inside room = release_acts job v d there queue due (and_right (is_running v.phase) _ inside) (and_right (is_running v.phase) (is_full job v) (not_full job v room))
 
 pub page_acts : (job : Job) (v : View) → is_live v.phase ≡ true → is_empty_set v.to_send ≡ false → length v.outbox.messages < job.config.outbox → SomeActs job v

@@ -42,7 +42,7 @@ abbrev disk_events : ℕ → List Event
 disk_events d = Begin d ∷ Read d ∷ Advance d ∷ Release d ∷ []
 
 abbrev disks_of : Job → List Event
-disks_of job = for_each_below (length job.shape.disks) disk_events
+disks_of job = for_each_below (length job.copy.disks) disk_events
 
 abbrev rounds_of : List Event
 rounds_of = Round ∷ Page ∷ []
@@ -88,8 +88,8 @@ in_sixth test a b c d e f h = in_right test (a ++ b ++ c ++ d ++ e) f h
 guest_in : (test : Event → Bool) (job : Job) (g : ℕ) → g < guest_count job → test (Guest (record { 0 = g })) ≡ true → list_any test (driver_events job) ≡ true
 guest_in test job g lt e = in_first test (guests_of job) (disks_of job) rounds_of (sends_of job) (deliveries_of job) ends_of (below_any test (guest_count job) g (λ k. Guest (record { 0 = k }) ∷ []) lt (rw e refl))
 
-disk_in : (test : Event → Bool) (job : Job) (d : ℕ) → d < length job.shape.disks → list_any test (disk_events d) ≡ true → list_any test (driver_events job) ≡ true
-disk_in test job d lt e = in_second test (guests_of job) (disks_of job) rounds_of (sends_of job) (deliveries_of job) ends_of (below_any test (length job.shape.disks) d disk_events lt e)
+disk_in : (test : Event → Bool) (job : Job) (d : ℕ) → d < length job.copy.disks → list_any test (disk_events d) ≡ true → list_any test (driver_events job) ≡ true
+disk_in test job d lt e = in_second test (guests_of job) (disks_of job) rounds_of (sends_of job) (deliveries_of job) ends_of (below_any test (length job.copy.disks) d disk_events lt e)
 
 round_in : (test : Event → Bool) (job : Job) → list_any test rounds_of ≡ true → list_any test (driver_events job) ≡ true
 round_in test job e = in_third test (guests_of job) (disks_of job) rounds_of (sends_of job) (deliveries_of job) ends_of e
@@ -111,10 +111,10 @@ one_of_four a b c d (inr (inr (inr e))) = or_right a _ (or_right b _ (or_right c
 
 pub event_in : (test : Event → Bool) (job : Job) (e : Event) → fits job e ≡ true → test e ≡ true → list_any test (driver_events job) ≡ true
 event_in test job (Guest g) f t = guest_in test job g.0 (ltb-true g.0 (guest_count job) f) t
-event_in test job (Begin d) f t = disk_in test job d (ltb-true d (length job.shape.disks) f) (one_of_four (test (Begin d)) (test (Read d)) (test (Advance d)) (test (Release d)) (inl t))
-event_in test job (Read d) f t = disk_in test job d (ltb-true d (length job.shape.disks) f) (one_of_four (test (Begin d)) (test (Read d)) (test (Advance d)) (test (Release d)) (inr (inl t)))
-event_in test job (Advance d) f t = disk_in test job d (ltb-true d (length job.shape.disks) f) (one_of_four (test (Begin d)) (test (Read d)) (test (Advance d)) (test (Release d)) (inr (inr (inl t))))
-event_in test job (Release d) f t = disk_in test job d (ltb-true d (length job.shape.disks) f) (one_of_four (test (Begin d)) (test (Read d)) (test (Advance d)) (test (Release d)) (inr (inr (inr t))))
+event_in test job (Begin d) f t = disk_in test job d (ltb-true d (length job.copy.disks) f) (one_of_four (test (Begin d)) (test (Read d)) (test (Advance d)) (test (Release d)) (inl t))
+event_in test job (Read d) f t = disk_in test job d (ltb-true d (length job.copy.disks) f) (one_of_four (test (Begin d)) (test (Read d)) (test (Advance d)) (test (Release d)) (inr (inl t)))
+event_in test job (Advance d) f t = disk_in test job d (ltb-true d (length job.copy.disks) f) (one_of_four (test (Begin d)) (test (Read d)) (test (Advance d)) (test (Release d)) (inr (inr (inl t))))
+event_in test job (Release d) f t = disk_in test job d (ltb-true d (length job.copy.disks) f) (one_of_four (test (Begin d)) (test (Read d)) (test (Advance d)) (test (Release d)) (inr (inr (inr t))))
 event_in test job Round f t = round_in test job (or_left (test Round) _ t)
 event_in test job Page f t = round_in test job (or_right (test Round) _ (or_left (test Page) _ t))
 event_in test job (Send s) f t = send_in test job s (ltb-true s job.config.streams f) t
@@ -134,13 +134,13 @@ six_joined : (test : Event → Bool) (a b c d e f : List Event) → list_all tes
 six_joined test a b c d e f g h i j k l =
     all_joined test (a ++ b ++ c ++ d ++ e) f (all_joined test (a ++ b ++ c ++ d) e (all_joined test (a ++ b ++ c) d (all_joined test (a ++ b) c (all_joined test a b g h) i) j) k) l
 
-disk_events_fit : (job : Job) (d : ℕ) → d < length job.shape.disks → list_all (fits job) (disk_events d) ≡ true
-disk_events_fit job d lt = rw (lt-ltb d (length job.shape.disks) lt) refl
+disk_events_fit : (job : Job) (d : ℕ) → d < length job.copy.disks → list_all (fits job) (disk_events d) ≡ true
+disk_events_fit job d lt = rw (lt-ltb d (length job.copy.disks) lt) refl
 
 pub all_fit : (job : Job) → list_all (fits job) (driver_events job) ≡ true
 all_fit job =
     let guests = below_all (fits job) (guest_count job) (λ k. Guest (record { 0 = k }) ∷ []) (λ g lt. rw (lt-ltb g (guest_count job) lt) refl) in
-    let disks = below_all (fits job) (length job.shape.disks) disk_events (disk_events_fit job) in
+    let disks = below_all (fits job) (length job.copy.disks) disk_events (disk_events_fit job) in
     let sends = below_all (fits job) job.config.streams (λ k. Send k ∷ []) (λ s lt. rw (lt-ltb s job.config.streams lt) refl) in
     let deliveries = below_all (fits job) job.config.streams (λ k. Deliver k ∷ []) (λ s lt. rw (lt-ltb s job.config.streams lt) refl) in
     six_joined (fits job) (guests_of job) (disks_of job) rounds_of (sends_of job) (deliveries_of job) ends_of guests disks refl sends deliveries refl

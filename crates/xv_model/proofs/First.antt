@@ -47,15 +47,15 @@ none_outstanding : (job : Job) (test : UnitHead → Bool) → outstanding (first
 none_outstanding job test = let a = none_on_the_way job test in omega arith
 
 -- no block is behind, and no unit settled
-none_behind : (job : Job) (unit : ℕ) → is_behind_block job.shape (first_view job).disks unit ≡ true → ⊥
+none_behind : (job : Job) (unit : ℕ) → is_behind_block job.copy (first_view job).disks unit ≡ true → ⊥
 none_behind job unit h =
-    let b = (behind_block job.shape (first_view job).disks unit h).behind in
-    let c = ap (λ (d : Disk). d.cursor) (no_disk-each job.shape.disks (disk_of job.shape unit)) in
+    let b = (behind_block job.copy (first_view job).disks unit h).behind in
+    let c = ap (λ (d : Disk). d.cursor) (no_disk-each job.copy.disks (disk_of job.copy unit)) in
     omega arith
 
-none_settled : (job : Job) (unit : ℕ) → is_settled job.shape (first_view job).disks (first_view job).dirty (first_view job).to_send unit ≡ true → ⊥
-none_settled job unit h = elim (settled_cases job.shape (first_view job).disks (first_view job).dirty (first_view job).to_send unit h) [
-  | inl page ↦ let a = all_dirty job.shape.pages unit (page_below job.shape unit page.0) in let b = page.1 in absurd (cc)
+none_settled : (job : Job) (unit : ℕ) → is_settled job.copy (first_view job).disks (first_view job).dirty (first_view job).to_send unit ≡ true → ⊥
+none_settled job unit h = elim (settled_cases job.copy (first_view job).disks (first_view job).dirty (first_view job).to_send unit h) [
+  | inl page ↦ let a = all_dirty job.copy.pages unit (page_below job.copy unit page.0) in let b = page.1 in absurd (cc)
   | inr block ↦ none_behind job unit block
 ]
 
@@ -75,13 +75,13 @@ first-times job = record {
   recorded_to_mark = λ unit. let a = number-none (unit_count job) unit in omega arith;
 }
 
-first-tips : (job : Job) → TipCovers (wrote job []) 0 (outstanding (first_view job)) (first_view job).outbox.issued (first_view job).hold.applied (first_view job).hold.recorded (is_settled job.shape (first_view job).disks (first_view job).dirty (first_view job).to_send)
+first-tips : (job : Job) → TipCovers (wrote job []) 0 (outstanding (first_view job)) (first_view job).outbox.issued (first_view job).hold.applied (first_view job).hold.recorded (is_settled job.copy (first_view job).disks (first_view job).dirty (first_view job).to_send)
 first-tips job = record {
   made = λ unit h. absurd (none_settled job unit h);
   covers = λ unit at i h tip lt w. absurd (none_settled job unit h);
 }
 
-first-mirrors : (job : Job) → EachWriteOnce (wrote job []) (writes job []) 0 (outstanding (first_view job)) (first_view job).outbox.issued (first_view job).hold.applied (first_view job).hold.recorded (first_view job).outbox.first (is_behind_block job.shape (first_view job).disks)
+first-mirrors : (job : Job) → EachWriteOnce (wrote job []) (writes job []) 0 (outstanding (first_view job)) (first_view job).outbox.issued (first_view job).hold.applied (first_view job).hold.recorded (first_view job).outbox.first (is_behind_block job.copy (first_view job).disks)
 first-mirrors job = record {
   counted = λ unit h. absurd (none_behind job unit h);
   outstanding = λ unit version at h k. absurd (none_behind job unit h);
@@ -102,29 +102,29 @@ first-credit job = record {
   outbox_fits = omega arith;
 }
 
-first-regions : (job : Job) → RegionsFit job.shape job.config.region (first_view job).phase (first_view job).disks
+first-regions : (job : Job) → RegionsFit job.copy job.config.region (first_view job).phase (first_view job).disks
 first-regions job = record {
-  cursor_fits = λ d there. rw (no_disk-each job.shape.disks d) (omega arith);
-  region_fits = λ d. rw (no_disk-each job.shape.disks d) (omega arith);
-  read_fits = λ d. rw (no_disk-each job.shape.disks d) (omega arith);
+  cursor_fits = λ d there. rw (no_disk-each job.copy.disks d) (omega arith);
+  region_fits = λ d. rw (no_disk-each job.copy.disks d) (omega arith);
+  read_fits = λ d. rw (no_disk-each job.copy.disks d) (omega arith);
   only_running = λ d h. absurd (cc);
 }
 
-first-rounds : (job : Job) → RoundsCount job.shape.pages job.format job.config.rounds 0 (first_view job).phase (all_copied job (first_view job)) (first_view job).dirty (first_view job).to_send 0 (first_view job).outbox.issued
+first-rounds : (job : Job) → RoundsCount job.copy.pages job.format job.config.rounds 0 (first_view job).phase (all_copied job (first_view job)) (first_view job).dirty (first_view job).to_send 0 (first_view job).outbox.issued
 first-rounds job = record {
-  apart = λ page h. member-none job.shape.pages page;
-  sendings = λ page there. let a = number-none (unit_count job) page in rw (member-none job.shape.pages page) (omega arith);
+  apart = λ page h. member-none job.copy.pages page;
+  sendings = λ page there. let a = number-none (unit_count job) page in rw (member-none job.copy.pages page) (omega arith);
   limited = λ h. omega arith;
-  beside = λ h k. omega (arith, members-le (first_view job).dirty, length-replicate job.shape.pages true);
+  beside = λ h k. omega (arith, members-le (first_view job).dirty, length-replicate job.copy.pages true);
   limited_beside = λ h. omega arith;
 }
 
-first-queues : (job : Job) → QueuesWait job.shape (first_view job).phase (first_view job).disks (next_operation job (first_view job))
+first-queues : (job : Job) → QueuesWait job.copy (first_view job).phase (first_view job).disks (next_operation job (first_view job))
 first-queues job = record {
-  once = λ guest. let a = no_waits job.shape.disks guest in omega arith;
-  of_disk = λ d i there. absurd (let a = ap (λ (x : Disk). length x.queue) (no_disk-each job.shape.disks d) in omega arith);
-  to_write = λ d i there. absurd (let a = ap (λ (x : Disk). length x.queue) (no_disk-each job.shape.disks d) in omega arith);
-  not_ahead = λ d i h there. absurd (let a = ap (λ (x : Disk). length x.queue) (no_disk-each job.shape.disks d) in omega arith);
+  once = λ guest. let a = no_waits job.copy.disks guest in omega arith;
+  of_disk = λ d i there. absurd (let a = ap (λ (x : Disk). length x.queue) (no_disk-each job.copy.disks d) in omega arith);
+  to_write = λ d i there. absurd (let a = ap (λ (x : Disk). length x.queue) (no_disk-each job.copy.disks d) in omega arith);
+  not_ahead = λ d i h there. absurd (let a = ap (λ (x : Disk). length x.queue) (no_disk-each job.copy.disks d) in omega arith);
 }
 
 first-history : (job : Job) → HistoryIsLegal job [] 0 (first_view job).phase None
@@ -157,9 +157,9 @@ first-cancel job = record {
 
 first-lists : (job : Job) → ListsHaveLengths job (first_view job)
 first-lists job = record {
-  disks = length-map job.shape.disks (λ (_ : DiskShape). no_disk);
-  dirty = length-replicate job.shape.pages true;
-  to_send = length-replicate job.shape.pages false;
+  disks = length-map job.copy.disks (λ (_ : DiskShape). no_disk);
+  dirty = length-replicate job.copy.pages true;
+  to_send = length-replicate job.copy.pages false;
   issued = length-replicate (unit_count job) 0;
   first = length-replicate (unit_count job) 0;
   applied = length-replicate (unit_count job) 0;

@@ -171,26 +171,26 @@ aim_of alone page behind inside = if alone then Alone else (if page then Store e
 pub record MeansStore (job : Job) (v : View) (op : UnitOp) : Type 0 where
   pub running : is_running v.phase ≡ true
   pub writes : is_some op.write ≡ true
-  pub page : is_page job.shape op.unit.0 ≡ true
+  pub page : is_page job.copy op.unit.0 ≡ true
 
 pub record MeansMirror (job : Job) (v : View) (op : UnitOp) : Type 0 where
   pub running : is_running v.phase ≡ true
   pub writes : is_some op.write ≡ true
-  pub block : is_page job.shape op.unit.0 ≡ false
-  pub behind : is_behind (disk v (disk_of job.shape op.unit.0)) (block_of job.shape op.unit.0) ≡ true
+  pub block : is_page job.copy op.unit.0 ≡ false
+  pub behind : is_behind (disk v (disk_of job.copy op.unit.0)) (block_of job.copy op.unit.0) ≡ true
 
 pub record MeansJoin (job : Job) (v : View) (op : UnitOp) : Type 0 where
   pub running : is_running v.phase ≡ true
   pub writes : is_some op.write ≡ true
-  pub block : is_page job.shape op.unit.0 ≡ false
-  pub not_behind : is_behind (disk v (disk_of job.shape op.unit.0)) (block_of job.shape op.unit.0) ≡ false
-  pub inside : is_inside (disk v (disk_of job.shape op.unit.0)) (block_of job.shape op.unit.0) ≡ true
+  pub block : is_page job.copy op.unit.0 ≡ false
+  pub not_behind : is_behind (disk v (disk_of job.copy op.unit.0)) (block_of job.copy op.unit.0) ≡ false
+  pub inside : is_inside (disk v (disk_of job.copy op.unit.0)) (block_of job.copy op.unit.0) ≡ true
 
 -- an operation alone, where the guest runs and it writes, writes to a block ahead
 pub record MeansAlone (job : Job) (v : View) (op : UnitOp) : Type 0 where
-  pub block : is_running v.phase ≡ true → is_some op.write ≡ true → is_page job.shape op.unit.0 ≡ false
-  pub not_behind : is_running v.phase ≡ true → is_some op.write ≡ true → is_behind (disk v (disk_of job.shape op.unit.0)) (block_of job.shape op.unit.0) ≡ false
-  pub not_inside : is_running v.phase ≡ true → is_some op.write ≡ true → is_inside (disk v (disk_of job.shape op.unit.0)) (block_of job.shape op.unit.0) ≡ false
+  pub block : is_running v.phase ≡ true → is_some op.write ≡ true → is_page job.copy op.unit.0 ≡ false
+  pub not_behind : is_running v.phase ≡ true → is_some op.write ≡ true → is_behind (disk v (disk_of job.copy op.unit.0)) (block_of job.copy op.unit.0) ≡ false
+  pub not_inside : is_running v.phase ≡ true → is_some op.write ≡ true → is_inside (disk v (disk_of job.copy op.unit.0)) (block_of job.copy op.unit.0) ≡ false
 
 runs_and_writes : (r w : Bool) → not (r && w) ≡ false → (r ≡ true) × (w ≡ true)
 runs_and_writes true true e = (refl, refl)
@@ -232,25 +232,25 @@ alone_tests false false false false e f = (refl, refl, refl)
 
 pub aim-store : (job : Job) (v : View) (op : UnitOp) → aim job v op ≡ Store → MeansStore job v op
 aim-store job v op e =
-    let t = store_tests (not (is_running v.phase && is_some op.write)) (is_page job.shape op.unit.0) (is_behind (disk v (disk_of job.shape op.unit.0)) (block_of job.shape op.unit.0)) (is_inside (disk v (disk_of job.shape op.unit.0)) (block_of job.shape op.unit.0)) e in
+    let t = store_tests (not (is_running v.phase && is_some op.write)) (is_page job.copy op.unit.0) (is_behind (disk v (disk_of job.copy op.unit.0)) (block_of job.copy op.unit.0)) (is_inside (disk v (disk_of job.copy op.unit.0)) (block_of job.copy op.unit.0)) e in
     let r = runs_and_writes (is_running v.phase) (is_some op.write) t.0 in
     record { running = r.0; writes = r.1; page = t.1 }
 
 pub aim-mirror : (job : Job) (v : View) (op : UnitOp) → aim job v op ≡ Mirror → MeansMirror job v op
 aim-mirror job v op e =
-    let t = mirror_tests (not (is_running v.phase && is_some op.write)) (is_page job.shape op.unit.0) (is_behind (disk v (disk_of job.shape op.unit.0)) (block_of job.shape op.unit.0)) (is_inside (disk v (disk_of job.shape op.unit.0)) (block_of job.shape op.unit.0)) e in
+    let t = mirror_tests (not (is_running v.phase && is_some op.write)) (is_page job.copy op.unit.0) (is_behind (disk v (disk_of job.copy op.unit.0)) (block_of job.copy op.unit.0)) (is_inside (disk v (disk_of job.copy op.unit.0)) (block_of job.copy op.unit.0)) e in
     let r = runs_and_writes (is_running v.phase) (is_some op.write) t.0 in
     record { running = r.0; writes = r.1; block = t.1; behind = t.2 }
 
 pub aim-join : (job : Job) (v : View) (op : UnitOp) → aim job v op ≡ Join → MeansJoin job v op
 aim-join job v op e =
-    let t = join_tests (not (is_running v.phase && is_some op.write)) (is_page job.shape op.unit.0) (is_behind (disk v (disk_of job.shape op.unit.0)) (block_of job.shape op.unit.0)) (is_inside (disk v (disk_of job.shape op.unit.0)) (block_of job.shape op.unit.0)) e in
+    let t = join_tests (not (is_running v.phase && is_some op.write)) (is_page job.copy op.unit.0) (is_behind (disk v (disk_of job.copy op.unit.0)) (block_of job.copy op.unit.0)) (is_inside (disk v (disk_of job.copy op.unit.0)) (block_of job.copy op.unit.0)) e in
     let r = runs_and_writes (is_running v.phase) (is_some op.write) t.0 in
     record { running = r.0; writes = r.1; block = t.1; not_behind = t.2; inside = t.3 }
 
 pub aim-alone : (job : Job) (v : View) (op : UnitOp) → aim job v op ≡ Alone → MeansAlone job v op
 aim-alone job v op e =
-    let t = alone_tests (not (is_running v.phase && is_some op.write)) (is_page job.shape op.unit.0) (is_behind (disk v (disk_of job.shape op.unit.0)) (block_of job.shape op.unit.0)) (is_inside (disk v (disk_of job.shape op.unit.0)) (block_of job.shape op.unit.0)) e in
+    let t = alone_tests (not (is_running v.phase && is_some op.write)) (is_page job.copy op.unit.0) (is_behind (disk v (disk_of job.copy op.unit.0)) (block_of job.copy op.unit.0)) (is_inside (disk v (disk_of job.copy op.unit.0)) (block_of job.copy op.unit.0)) e in
     record {
       block = λ r w. (t (not_alone _ _ r w)).0;
       not_behind = λ r w. (t (not_alone _ _ r w)).1;
@@ -268,7 +268,7 @@ pub record GuestGoes (job : Job) (v : View) (g : ℕ) : Type 0 where
 pub record BeginGoes (job : Job) (v : View) (d : ℕ) : Type 0 where
   pub running : is_running v.phase ≡ true
   pub no_region : (disk v d).region ≡ 0
-  pub not_copied : (disk v d).cursor ≢ blocks job.shape.disks d
+  pub not_copied : (disk v d).cursor ≢ blocks job.copy.disks d
   pub no_queue : (disk v d).queue ≡ []
 
 pub record ReadGoes (job : Job) (v : View) (d : ℕ) : Type 0 where
@@ -284,7 +284,7 @@ pub record AdvanceGoes (job : Job) (v : View) (d : ℕ) : Type 0 where
 pub record ReleaseGoes (job : Job) (v : View) (d : ℕ) : Type 0 where
   pub some_queue : 0 < length (disk v d).queue
   pub not_due : cancel_due job v ≡ false
-  pub not_inside : is_running v.phase ≡ true → is_inside (disk v d) (block_of job.shape (front (disk v d)).unit.0) ≡ false
+  pub not_inside : is_running v.phase ≡ true → is_inside (disk v d) (block_of job.copy (front (disk v d)).unit.0) ≡ false
   pub has_room : is_running v.phase ≡ true → length v.outbox.messages < job.config.outbox
 
 pub record RoundGoes (job : Job) (v : View) : Type 0 where
@@ -420,13 +420,13 @@ guest_goes job v g flag e =
 
 pub begin_goes : (job : Job) (v : View) (d : ℕ) (flag : Bool) → wait job v (Begin d) flag ≡ None → BeginGoes job v d
 begin_goes job v d flag e =
-    let x = two_passed (not (is_running v.phase)) (is_copied (blocks job.shape.disks d) (disk v d) || not ((disk v d).region == 0) || not (is_empty (disk v d).queue)) NotNow NotNow e in
-    let y = three_false (is_copied (blocks job.shape.disks d) (disk v d)) (not ((disk v d).region == 0)) (not (is_empty (disk v d).queue)) x.1 in
+    let x = two_passed (not (is_running v.phase)) (is_copied (blocks job.copy.disks d) (disk v d) || not ((disk v d).region == 0) || not (is_empty (disk v d).queue)) NotNow NotNow e in
+    let y = three_false (is_copied (blocks job.copy.disks d) (disk v d)) (not ((disk v d).region == 0)) (not (is_empty (disk v d).queue)) x.1 in
     let region_test = not-false ((disk v d).region == 0) y.1 in
     record {
       running = not-false (is_running v.phase) x.0;
       no_region = eqb-true (disk v d).region 0 region_test;
-      not_copied = λ same. not_both ((disk v d).cursor == blocks job.shape.disks d) ((disk v d).region == 0) y.0 (eq-eqb (disk v d).cursor (blocks job.shape.disks d) same) region_test;
+      not_copied = λ same. not_both ((disk v d).cursor == blocks job.copy.disks d) ((disk v d).region == 0) y.0 (eq-eqb (disk v d).cursor (blocks job.copy.disks d) same) region_test;
       no_queue = empty-nil (disk v d).queue (not-false (is_empty (disk v d).queue) y.2);
     }
 
@@ -451,11 +451,11 @@ advance_goes job v d flag e =
 
 pub release_goes : (job : Job) (v : View) (d : ℕ) (flag : Bool) → wait job v (Release d) flag ≡ None → ReleaseGoes job v d
 release_goes job v d flag e =
-    let x = four_passed (is_empty (disk v d).queue) (cancel_due job v) (is_running v.phase && is_inside (disk v d) (block_of job.shape (front (disk v d)).unit.0)) (is_running v.phase && is_full job v) NothingThere CancelDue NotNow Throttled e in
+    let x = four_passed (is_empty (disk v d).queue) (cancel_due job v) (is_running v.phase && is_inside (disk v d) (block_of job.copy (front (disk v d)).unit.0)) (is_running v.phase && is_full job v) NothingThere CancelDue NotNow Throttled e in
     record {
       some_queue = some-length (disk v d).queue x.0;
       not_due = x.1;
-      not_inside = λ r. room_left (is_running v.phase) (is_inside (disk v d) (block_of job.shape (front (disk v d)).unit.0)) x.2 r;
+      not_inside = λ r. room_left (is_running v.phase) (is_inside (disk v d) (block_of job.copy (front (disk v d)).unit.0)) x.2 r;
       has_room = λ r. leb-false job.config.outbox (length v.outbox.messages) (room_left (is_running v.phase) (is_full job v) x.3 r);
     }
 

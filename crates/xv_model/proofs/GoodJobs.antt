@@ -22,6 +22,7 @@ pub first_path-good : IsGoodJob first_path_job
 unfolding lib.Count.ones
 first_path-good = record {
   machine = record { no_fault = refl; few_disks = omega arith };
+  same_units = refl;
   some_blocks = first_path-disk;
   formats = inl (refl, refl);
   streams = (omega arith, omega arith);
@@ -52,6 +53,7 @@ pub groups-good : IsGoodJob groups_job
 unfolding lib.Count.ones
 groups-good = record {
   machine = record { no_fault = refl; few_disks = omega arith };
+  same_units = refl;
   some_blocks = groups-disk;
   formats = inr (refl, omega arith, omega arith);
   streams = (omega arith, omega arith);
@@ -83,6 +85,7 @@ pub throttling-good : IsGoodJob throttling_job
 unfolding lib.Count.ones
 throttling-good = record {
   machine = record { no_fault = refl; few_disks = omega arith };
+  same_units = refl;
   some_blocks = throttling-disk;
   formats = inl (refl, refl);
   streams = (omega arith, omega arith);
@@ -111,6 +114,7 @@ pub cancelled-good : IsGoodJob cancelled_while_stunned_job
 unfolding lib.Count.ones
 cancelled-good = record {
   machine = record { no_fault = refl; few_disks = omega arith };
+  same_units = refl;
   some_blocks = λ d lt. absurd (omega (arith, lt));
   formats = inl (refl, refl);
   streams = (omega arith, omega arith);
@@ -145,6 +149,7 @@ pub after_the_switch-good : IsGoodJob after_the_switch_job
 unfolding lib.Count.ones
 after_the_switch-good = record {
   machine = record { no_fault = refl; few_disks = omega arith };
+  same_units = refl;
   some_blocks = after_the_switch-disk;
   formats = inl (refl, refl);
   streams = (omega arith, omega arith);
@@ -176,6 +181,7 @@ pub failed_destination-good : IsGoodJob failed_destination_job
 unfolding lib.Count.ones
 failed_destination-good = record {
   machine = record { no_fault = refl; few_disks = omega arith };
+  same_units = refl;
   some_blocks = failed_destination-disk;
   formats = inl (refl, refl);
   streams = (omega arith, omega arith);
@@ -202,6 +208,7 @@ pub switch_by_credit-good : IsGoodJob switch_by_credit_alone_job
 unfolding lib.Count.ones
 switch_by_credit-good = record {
   machine = record { no_fault = refl; few_disks = omega arith };
+  same_units = refl;
   some_blocks = λ d lt. absurd (omega (arith, lt));
   formats = inl (refl, refl);
   streams = (omega arith, omega arith);

@@ -102,7 +102,7 @@ guest_lists job v g op Alone i live =
 guest_lists job v g op Store i live =
     let l = i.lists in record { disks = l.disks; dirty = length-store (not (member v.to_send op.unit.0)) v.dirty op.unit.0 ∙ l.dirty; to_send = l.to_send; issued = l.issued; first = l.first; applied = l.applied; recorded = l.recorded; streams = l.streams; groups = l.groups; first_to_mark = λ u. le_trans (l.first_to_mark u) (mark_up (is_live v.phase) v.mark (length v.history) i.history.mark_within) }
 guest_lists job v g op Join i live =
-    let l = i.lists in record { disks = length-set v.disks (disk_of job.shape op.unit.0) _ ∙ l.disks; dirty = l.dirty; to_send = l.to_send; issued = l.issued; first = l.first; applied = l.applied; recorded = l.recorded; streams = l.streams; groups = l.groups; first_to_mark = l.first_to_mark }
+    let l = i.lists in record { disks = length-set v.disks (disk_of job.copy op.unit.0) _ ∙ l.disks; dirty = l.dirty; to_send = l.to_send; issued = l.issued; first = l.first; applied = l.applied; recorded = l.recorded; streams = l.streams; groups = l.groups; first_to_mark = l.first_to_mark }
 guest_lists job v g op Mirror i live =
     let l = i.lists in record { disks = l.disks; dirty = l.dirty; to_send = l.to_send; issued = length-issued-made v.outbox op.unit.0 (length v.history + 1) ∙ l.issued; first = length-first-made v.outbox op.unit.0 (length v.history + 1) ∙ l.first; applied = l.applied; recorded = l.recorded; streams = l.streams; groups = l.groups; first_to_mark = λ u. mirrored (is_live v.phase) (length v.history) v.mark (number (made v.outbox op.unit.0 (length v.history + 1)).first u) (live refl) (first-made-le v.outbox op.unit.0 (length v.history + 1) (length v.history + 1) u (omega (arith, l.first_to_mark u, i.history.mark_within)) (omega arith)) }
 

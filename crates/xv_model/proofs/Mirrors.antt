@@ -13,6 +13,7 @@ use Rattle.xv_model.specs.Invariant.{EachWriteOnce, IsMirrorAt, IsViewOf, is_beh
 use Rattle.xv_base.specs.declared.event.Phase.TheVariants.{Cancelled, Failed}
 use Rattle.xv_base.specs.declared.operation.Outcome.TheVariants.{Faulted}
 use Rattle.xv_base.specs.declared.event.Event.TheVariants.{Guest, Begin, Read, Advance, Release, Round, Page, Send, Deliver, Apply, Ack, Credit, Stun, Switch, Cancel}
+use Rattle.xv_model.proofs.Facts.{mirror_unit}
 use Rattle.xv_model.proofs.GoesOn.{aim-store, aim-mirror, GuestGoes, guest_goes, advance_goes, ReleaseGoes, release_goes, PageGoes, page_goes, ApplyGoes, apply_goes, running_is_live}
 use Rattle.xv_model.proofs.Layouts.{SameCursors, cursors_kept, no_regions, same_behind, behind_after, settled_block, page_from, behind_block, behind_block_from, cursor_of}
 use Rattle.xv_model.proofs.Histories.{push, wrote-push_before, wrote-push_at, writes-push_before, writes-suc}
@@ -23,7 +24,7 @@ use Rattle.xv_model.proofs.Unsent.{front_is, run_cases, run_fits, run_is}
 use Rattle.xv_model.proofs.Tips.{done_entry, faulted_entry, faulted_wrote, writes_unit, wrote_other, alone_writes_none, released_by, released_not_stunned, AppliedIs, applied_is}
 
 abbrev pub MirrorsOf : Job → View → Type 0
-MirrorsOf job v = EachWriteOnce (wrote job v.history) (writes job v.history) v.mark (outstanding v) v.outbox.issued v.hold.applied v.hold.recorded v.outbox.first (is_behind_block job.shape v.disks)
+MirrorsOf job v = EachWriteOnce (wrote job v.history) (writes job v.history) v.mark (outstanding v) v.outbox.issued v.hold.applied v.hold.recorded v.outbox.first (is_behind_block job.copy v.disks)
 
 abbrev pub MirrorAt : Job → View → ℕ → ℕ → ℕ → Type 0
 MirrorAt job v unit version at = IsMirrorAt (wrote job v.history) (writes job v.history) v.outbox.first unit version at
@@ -34,14 +35,14 @@ pub record MirrorsUnit (job : Job) (v : View) (unit : ℕ) : Type 0 where
   pub outstanding : (version at : ℕ) → 0 < outstanding v (is_message unit version at) → MirrorAt job v unit version at
   pub applied_last : 0 < number v.hold.applied unit → MirrorAt job v unit (number v.hold.applied unit) (number v.hold.recorded unit)
 
-pub mirrors_unit : (job : Job) (v : View) (unit : ℕ) → MirrorsOf job v → is_behind_block job.shape v.disks unit ≡ true → MirrorsUnit job v unit
+pub mirrors_unit : (job : Job) (v : View) (unit : ℕ) → MirrorsOf job v → is_behind_block job.copy v.disks unit ≡ true → MirrorsUnit job v unit
 mirrors_unit job v unit h b = record {
   counted = h.counted unit b;
   outstanding = λ version at k. h.outstanding unit version at b k;
   applied_last = h.applied_last unit b;
 }
 
-pub mirrors_by : (job : Job) (v : View) → ((unit : ℕ) → is_behind_block job.shape v.disks unit ≡ true → MirrorsUnit job v unit) → MirrorsOf job v
+pub mirrors_by : (job : Job) (v : View) → ((unit : ℕ) → is_behind_block job.copy v.disks unit ≡ true → MirrorsUnit job v unit) → MirrorsOf job v
 mirrors_by job v each = record {
   counted = λ unit b. (each unit b).counted;
   outstanding = λ unit version at b k. (each unit b).outstanding version at k;
@@ -122,13 +123,13 @@ writes_mark_none job v e unit inv none = writes_mark_by job v.history e unit (is
 
 -- what leaves every cursor
 mirrors_cursors : (job : Job) (v : View) (ds : List Disk) → SameCursors ds v.disks → MirrorsOf job v → MirrorsOf job (record v { disks = ds })
-mirrors_cursors job v ds same h = subst (EachWriteOnce (wrote job v.history) (writes job v.history) v.mark (outstanding v) v.outbox.issued v.hold.applied v.hold.recorded v.outbox.first) (sym (same_behind job.shape ds v.disks same)) h
+mirrors_cursors job v ds same h = subst (EachWriteOnce (wrote job v.history) (writes job v.history) v.mark (outstanding v) v.outbox.issued v.hold.applied v.hold.recorded v.outbox.first) (sym (same_behind job.copy ds v.disks same)) h
 
-behind_same : (job : Job) (v : View) (ds : List Disk) (unit : ℕ) → SameCursors ds v.disks → is_behind_block job.shape ds unit ≡ true → is_behind_block job.shape v.disks unit ≡ true
-behind_same job v ds unit same b = sym (ap (λ (f : ℕ → Bool). f unit) (same_behind job.shape ds v.disks same)) ∙ b
+behind_same : (job : Job) (v : View) (ds : List Disk) (unit : ℕ) → SameCursors ds v.disks → is_behind_block job.copy ds unit ≡ true → is_behind_block job.copy v.disks unit ≡ true
+behind_same job v ds unit same b = sym (ap (λ (f : ℕ → Bool). f unit) (same_behind job.copy ds v.disks same)) ∙ b
 
 -- an operation ended that wrote to no block behind
-pub mirrors_ended : (job : Job) (v : View) (e : Ended) → IsViewOf job v → ((unit : ℕ) → is_behind_block job.shape v.disks unit ≡ true → is_live v.phase ≡ true → wrote job (push v.history e) unit (length v.history) ≡ false) →
+pub mirrors_ended : (job : Job) (v : View) (e : Ended) → IsViewOf job v → ((unit : ℕ) → is_behind_block job.copy v.disks unit ≡ true → is_live v.phase ≡ true → wrote job (push v.history e) unit (length v.history) ≡ false) →
     MirrorsOf job (record v { history = push v.history e; mark = if is_live v.phase then length v.history + 1 else v.mark })
 mirrors_ended job v e inv none =
     let v' : View = record v { history = push v.history e; mark = if is_live v.phase then length v.history + 1 else v.mark } in
@@ -142,8 +143,8 @@ mirrors_ended job v e inv none =
     }) (mirrors_unit job v unit inv.mirrors b))
 
 -- a block behind has a version
-pub behind_issued : (job : Job) (v : View) (unit : ℕ) → IsViewOf job v → is_behind_block job.shape v.disks unit ≡ true → 1 ≤ number v.outbox.issued unit
-behind_issued job v unit inv b = inv.tips.made unit (settled_block job.shape v.disks v.dirty v.to_send unit b)
+pub behind_issued : (job : Job) (v : View) (unit : ℕ) → IsViewOf job v → is_behind_block job.copy v.disks unit ≡ true → 1 ≤ number v.outbox.issued unit
+behind_issued job v unit inv b = inv.tips.made unit (settled_block job.copy v.disks v.dirty v.to_send unit b)
 
 -- a mirrored write: its own unit
 abbrev mirrored : View → Ended → List Disk → ℕ → View
@@ -157,7 +158,7 @@ new_mirror job v e ds u version at w l c is = record {
   after_write = λ h. let before : at - 1 ≡ length v.history = omega (arith, is) in ap (wrote job (push v.history e) u) before ∙ w;
 }
 
-mirrored_own : (job : Job) (v : View) (e : Ended) (ds : List Disk) (u : ℕ) → IsViewOf job v → is_live v.phase ≡ true → is_behind_block job.shape v.disks u ≡ true → MadeOne (on_the_way v) v.outbox (made v.outbox u (length v.history + 1)) u (length v.history + 1) →
+mirrored_own : (job : Job) (v : View) (e : Ended) (ds : List Disk) (u : ℕ) → IsViewOf job v → is_live v.phase ≡ true → is_behind_block job.copy v.disks u ≡ true → MadeOne (on_the_way v) v.outbox (made v.outbox u (length v.history + 1)) u (length v.history + 1) →
     wrote job (push v.history e) u (length v.history) ≡ true → MirrorsUnit job (mirrored v e ds u) u
 mirrored_own job v e ds u inv live b one w =
     let v' : View = mirrored v e ds u in
@@ -180,11 +181,11 @@ mirrored_own job v e ds u inv live b one w =
       applied_last = λ s. mirror_at_kept job v v' u (number v.hold.applied u) (number v.hold.recorded u) kept f (inv.times.recorded_to_mark u) (h.applied_last s);
     }
 
-pub mirrors_made : (job : Job) (v : View) (e : Ended) (ds : List Disk) (u : ℕ) → SameCursors ds v.disks → IsViewOf job v → is_live v.phase ≡ true → is_behind_block job.shape v.disks u ≡ true →
+pub mirrors_made : (job : Job) (v : View) (e : Ended) (ds : List Disk) (u : ℕ) → SameCursors ds v.disks → IsViewOf job v → is_live v.phase ≡ true → is_behind_block job.copy v.disks u ≡ true →
     (operation job e.guest.0 (ended v.history e.guest.0)).unit.0 ≡ u → wrote job (push v.history e) u (length v.history) ≡ true → MirrorsOf job (mirrored v e ds u)
 mirrors_made job v e ds u same inv live behind writes_u w =
     let v' : View = mirrored v e ds u in
-    let l = (behind_block job.shape v.disks u behind).in_range in
+    let l = (behind_block job.copy v.disks u behind).in_range in
     let one = made-one (on_the_way v) v.outbox u (length v.history + 1) (omega (arith, l, inv.lists.issued)) (omega (arith, l, inv.lists.first)) in
     mirrors_by job v' (λ unit b. elim (cases_eq unit u) [
       | inl is ↦ subst (MirrorsUnit job v') (sym is) (mirrored_own job v e ds u inv live behind one w)
@@ -203,21 +204,21 @@ mirrors_made job v e ds u same inv live behind writes_u w =
 -- each effect
 mirrors_guest_by : (job : Job) (v : View) (g : ℕ) (a : Aim) → aim job v (next_operation job v g) ≡ a → IsGoodJob job → IsViewOf job v → GuestGoes job v g → MirrorsOf job (guest_by job v g (next_operation job v g) a)
 mirrors_guest_by job v g Alone e good inv goes =
-    mirrors_ended job v (done_entry g) inv (λ unit b live. alone_writes_none job v g unit goes e (settled_block job.shape v.disks v.dirty v.to_send unit b) live)
+    mirrors_ended job v (done_entry g) inv (λ unit b live. alone_writes_none job v g unit goes e (settled_block job.copy v.disks v.dirty v.to_send unit b) live)
 mirrors_guest_by job v g Store e good inv goes =
     let page = (aim-store job v (next_operation job v g) e).page in
     mirrors_ended job v (done_entry g) inv (λ unit b live. wrote_other job v.history (done_entry g) unit (λ same.
-    both_ways (is_page job.shape unit) (behind_block job.shape v.disks unit b).no_page (subst (λ u. is_page job.shape u ≡ true) (sym same) page)))
+    both_ways (is_page job.copy unit) (behind_block job.copy v.disks unit b).no_page (subst (λ u. is_page job.copy u ≡ true) (sym same) page)))
 mirrors_guest_by job v g Join e good inv goes =
     let op = next_operation job v g in
-    mirrors_cursors job v (set v.disks (disk_of job.shape op.unit.0) (joined (disk v (disk_of job.shape op.unit.0)) g op.unit.0)) (cursors_kept v.disks (disk_of job.shape op.unit.0) _ refl) inv.mirrors
+    mirrors_cursors job v (set v.disks (disk_of job.copy op.unit.0) (joined (disk v (disk_of job.copy op.unit.0)) g op.unit.0)) (cursors_kept v.disks (disk_of job.copy op.unit.0) _ refl) inv.mirrors
 mirrors_guest_by job v g Mirror e good inv goes =
     let op = next_operation job v g in
     let m = aim-mirror job v op e in
-    let behind = behind_block_from job.shape v.disks op.unit.0 (record {
-      in_range = (good.legal g (ended v.history g) goes.more).unit_is;
+    let behind = behind_block_from job.copy v.disks op.unit.0 (record {
+      in_range = mirror_unit job v g good goes;
       no_page = m.block;
-      behind = ltb-true (block_of job.shape op.unit.0) (cursor_of job.shape v.disks op.unit.0) m.behind;
+      behind = ltb-true (block_of job.copy op.unit.0) (cursor_of job.copy v.disks op.unit.0) m.behind;
     }) in
     let w : writes_to op op.unit.0 ≡ true = and_from (is_some op.write) (op.unit.0 == op.unit.0) m.writes (eq-eqb op.unit.0 op.unit.0 refl) in
     mirrors_made job v (done_entry g) v.disks op.unit.0 (λ i. refl) inv (running_is_live v.phase m.running) behind refl (wrote-push_at job v.history (done_entry g) op.unit.0 ∙ w)
@@ -236,11 +237,11 @@ mirrors-given_up job v phase inv = mirrors_cursors job v (map without_region v.d
 
 pub mirrors-sent : (job : Job) (v : View) (s : ℕ) → s < job.config.streams → IsViewOf job v → MirrorsOf job (sent job v s)
 mirrors-sent job v s l inv =
-    subst (λ bag. EachWriteOnce (wrote job v.history) (writes job v.history) v.mark bag v.outbox.issued v.hold.applied v.hold.recorded v.outbox.first (is_behind_block job.shape v.disks)) (sym (outstanding-sent-bag job v s (omega (arith, l, inv.lists.streams)))) inv.mirrors
+    subst (λ bag. EachWriteOnce (wrote job v.history) (writes job v.history) v.mark bag v.outbox.issued v.hold.applied v.hold.recorded v.outbox.first (is_behind_block job.copy v.disks)) (sym (outstanding-sent-bag job v s (omega (arith, l, inv.lists.streams)))) inv.mirrors
 
 pub mirrors-delivered : (job : Job) (v : View) (s : ℕ) → s < job.config.streams → IsViewOf job v → MirrorsOf job (delivered v s)
 mirrors-delivered job v s l inv =
-    subst (λ bag. EachWriteOnce (wrote job v.history) (writes job v.history) v.mark bag v.outbox.issued v.hold.applied v.hold.recorded v.outbox.first (is_behind_block job.shape v.disks)) (sym (outstanding-delivered-bag v s (omega (arith, l, inv.lists.streams)))) inv.mirrors
+    subst (λ bag. EachWriteOnce (wrote job v.history) (writes job v.history) v.mark bag v.outbox.issued v.hold.applied v.hold.recorded v.outbox.first (is_behind_block job.copy v.disks)) (sym (outstanding-delivered-bag v s (omega (arith, l, inv.lists.streams)))) inv.mirrors
 
 -- the history, the mark and the writes as they were
 same_history : (job : Job) (v v' : View) (unit : ℕ) → v'.history ≡ v.history → number v'.outbox.first unit ≡ number v.outbox.first unit → HistoryKept job v v' unit
@@ -252,10 +253,10 @@ same_history job v v' unit h f = record {
 
 pub mirrors-page : (job : Job) (v : View) → PageGoes job v → IsViewOf job v → MirrorsOf job (page_sent_off v)
 mirrors-page job v goes inv =
-    let page = page_from job.shape (least v.to_send) (omega (arith, goes.in_range, inv.lists.to_send)) in
+    let page = page_from job.copy (least v.to_send) (omega (arith, goes.in_range, inv.lists.to_send)) in
     mirrors_by job (page_sent_off v) (λ unit b.
     let none = made-other (on_the_way v) v.outbox (least v.to_send) (length v.history) unit (λ same.
-    both_ways (is_page job.shape unit) (behind_block job.shape v.disks unit b).no_page (subst (λ u. is_page job.shape u ≡ true) (sym same) page)) in
+    both_ways (is_page job.copy unit) (behind_block job.copy v.disks unit b).no_page (subst (λ u. is_page job.copy u ≡ true) (sym same) page)) in
     unit_kept job v (page_sent_off v) unit inv (record {
       kept = same_history job v (page_sent_off v) unit refl none.first;
       issued = none.issued;
@@ -266,8 +267,8 @@ mirrors-page job v goes inv =
     }) (mirrors_unit job v unit inv.mirrors b))
 
 -- a region is sent off: each of its units has its copy
-advanced_behind : (job : Job) (v : View) (d unit : ℕ) → d < length v.disks → is_behind_block job.shape (advanced job v d).disks unit ≡ true → (unit < cursor_unit job v d) ⊎ (cursor_unit job v d + (disk v d).region ≤ unit) → is_behind_block job.shape v.disks unit ≡ true
-advanced_behind job v d unit l b out = elim (behind_after job.shape v.disks d (record (disk v d) { cursor = (disk v d).cursor + (disk v d).region; region = 0; got = 0 }) unit l b) [
+advanced_behind : (job : Job) (v : View) (d unit : ℕ) → d < length v.disks → is_behind_block job.copy (advanced job v d).disks unit ≡ true → (unit < cursor_unit job v d) ⊎ (cursor_unit job v d + (disk v d).region ≤ unit) → is_behind_block job.copy v.disks unit ≡ true
+advanced_behind job v d unit l b out = elim (behind_after job.copy v.disks d (record (disk v d) { cursor = (disk v d).cursor + (disk v d).region; region = 0; got = 0 }) unit l b) [
   | inl old ↦ old
   | inr came ↦ absurd (elim out [ inl x ↦ omega (arith, x, came.within, came.unit) | inr x ↦ omega (arith, x, came.within, came.unit) ])
 ]
@@ -299,7 +300,7 @@ copied_unit job v v' unit inv live unsent h m applied bag one =
       applied_last = λ some. absurd (omega (arith, some, applied, below, unsent));
     }
 
-pub mirrors-advanced : (job : Job) (v : View) (d : ℕ) → d < length job.shape.disks → is_live v.phase ≡ true → IsViewOf job v → MirrorsOf job (advanced job v d)
+pub mirrors-advanced : (job : Job) (v : View) (d : ℕ) → d < length job.copy.disks → is_live v.phase ≡ true → IsViewOf job v → MirrorsOf job (advanced job v d)
 mirrors-advanced job v d l live inv =
     let in_view : d < length v.disks = omega (arith, l, inv.lists.disks) in
     mirrors_by job (advanced job v d) (λ unit b. elim (run_cases (cursor_unit job v d) (disk v d).region unit) [
@@ -351,10 +352,10 @@ mirrors_released_by job v d true r goes inv =
     let u = (front (disk v d)).unit.0 in
     let g = (front (disk v d)).guest.0 in
     let to_write = inv.queues.to_write d 0 goes.some_queue in
-    let behind = behind_block_from job.shape v.disks u (record {
+    let behind = behind_block_from job.copy v.disks u (record {
       in_range = at_front.in_range;
       no_page = at_front.block;
-      behind = ltb-true (block_of job.shape u) (cursor_of job.shape v.disks u) (at_front.behind r);
+      behind = ltb-true (block_of job.copy u) (cursor_of job.copy v.disks u) (at_front.behind r);
     }) in
     mirrors_made job v (done_entry g) (set v.disks d (front_gone (disk v d))) u (cursors_kept v.disks d _ refl) inv (running_is_live v.phase r) behind (writes_unit (next_operation job v g) u to_write).1
     (wrote-push_at job v.history (done_entry g) u ∙ to_write)
@@ -376,7 +377,7 @@ mirrors_effect : (job : Job) (v : View) (e : Event) (flag : Bool) → IsGoodJob 
 mirrors_effect job v (Guest g) flag good f inv w = mirrors-guest job v g.0 good inv (guest_goes job v g.0 flag w)
 mirrors_effect job v (Begin d) flag good f inv w = mirrors-begun job v d inv
 mirrors_effect job v (Read d) flag good f inv w = mirrors-block_read job v d inv
-mirrors_effect job v (Advance d) flag good f inv w = mirrors-advanced job v d (ltb-true d (length job.shape.disks) f) (running_is_live v.phase (advance_goes job v d flag w).running) inv
+mirrors_effect job v (Advance d) flag good f inv w = mirrors-advanced job v d (ltb-true d (length job.copy.disks) f) (running_is_live v.phase (advance_goes job v d flag w).running) inv
 mirrors_effect job v (Release d) flag good f inv w = mirrors-released job v d (release_goes job v d flag w) inv
 mirrors_effect job v Round flag good f inv w = inv.mirrors
 mirrors_effect job v Page flag good f inv w = mirrors-page job v (page_goes job v flag w) inv

@@ -159,13 +159,13 @@ some_inside k block e =
 
 queue_acts : (job : Job) (v : View) → IsGoodJob job → IsViewOf job v → is_running v.phase ≡ true → AllSent job v → SomeQueue v.disks → SomeActs job v
 queue_acts job v good inv running sent q =
-    let there : q.disk < length job.shape.disks = omega (arith, q.there, inv.lists.disks) in
-    elim (cases_Bool (is_inside (disk v q.disk) (block_of job.shape (front (disk v q.disk)).unit.0))) [
+    let there : q.disk < length job.copy.disks = omega (arith, q.there, inv.lists.disks) in
+    elim (cases_Bool (is_inside (disk v q.disk) (block_of job.copy (front (disk v q.disk)).unit.0))) [
       | inl inside ↦ region_acts job v q.disk there running (some_inside (disk v q.disk) _ inside) (region_has_room job v q.disk good inv sent)
       | inr outside ↦ release_acts_with_room job v q.disk there q.waits sent.due outside (has_room job v good sent)
     ]
 
-copy_acts : (job : Job) (v : View) → IsGoodJob job → IsViewOf job v → is_running v.phase ≡ true → AllSent job v → queues_empty v.disks ≡ true → SomeUncopied job.shape.disks v.disks → SomeActs job v
+copy_acts : (job : Job) (v : View) → IsGoodJob job → IsViewOf job v → is_running v.phase ≡ true → AllSent job v → queues_empty v.disks ≡ true → SomeUncopied job.copy.disks v.disks → SomeActs job v
 copy_acts job v good inv running sent queues u = elim (cases_lt 0 (disk v u.disk).region) [
   | inl some ↦ region_acts job v u.disk u.there running some (region_has_room job v u.disk good inv sent)
   | inr none ↦ begin_acts job v u.disk u.there running u.uncopied (omega (arith, none)) (queue_is_empty v.disks u.disk queues)
@@ -187,7 +187,7 @@ running_acts : (job : Job) (v : View) → IsGoodJob job → IsViewOf job v → i
 running_acts job v good inv running sent = elim (cases_Bool (queues_empty v.disks)) [
   | inl queues ↦ elim (cases_Bool (all_copied job v)) [
     | inl copied ↦ end_acts job v good running sent queues copied
-    | inr uncopied ↦ copy_acts job v good inv running sent queues (some_uncopied job.shape.disks v.disks inv.lists.disks uncopied)
+    | inr uncopied ↦ copy_acts job v good inv running sent queues (some_uncopied job.copy.disks v.disks inv.lists.disks uncopied)
   ]
   | inr waits ↦ queue_acts job v good inv running sent (some_queue v.disks waits)
 ]

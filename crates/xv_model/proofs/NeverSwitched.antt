@@ -30,5 +30,5 @@ view-source_kept job v c unit inv holds cancel lt = holds.source_is unit lt (vie
 pub run-source_kept : (job : Job) (dest : List (List ℕ)) (journal : List Entry) (unit : ℕ) → IsGoodJob job → length dest ≡ unit_count job → list_all (λ (e : Entry). fits job e.event) journal ≡ true → has_cancel job ≡ true → unit < unit_count job →
     unit_content (contents_after job (first_view job) (first_contents job dest) journal).source unit ≡ content job (run job journal).history unit (length (run job journal).history)
 run-source_kept job dest journal unit good same fit cancel lt =
-    let holds = (contents-run job journal (first_view job) (first_contents job dest) good (λ v e flag. step-holds job v e flag good) fit (first_view-holds job good) (contents-first job dest same)).contents in
+    let holds = (contents-run job journal (first_view job) (first_contents job dest) good (λ v e flag. step-holds job v e flag good) fit (first_view-holds job good) (contents-first job dest good same)).contents in
     view-source_kept job (run job journal) (contents_after job (first_view job) (first_contents job dest) journal) unit (run-holds job journal good fit) holds cancel lt

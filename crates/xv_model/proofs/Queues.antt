@@ -11,6 +11,7 @@ use Rattle.xv_model.specs.Step.{step}
 use Rattle.xv_model.specs.Invariant.{QueuesWait, IsViewOf, waits_in, waits_in_all, waiting_at}
 use Rattle.xv_base.specs.declared.event.Phase.TheVariants.{Stunned, Switched, Cancelled, Failed}
 use Rattle.xv_base.specs.declared.operation.Outcome.TheVariants.{Done, Faulted}
+use Rattle.xv_model.proofs.Facts.{mirror_unit}
 use Rattle.xv_model.proofs.GoesOn.{GuestGoes, MeansJoin, aim-join, in_queue-waits_in_all}
 use Rattle.xv_model.proofs.Histories.{push, ended-push_other}
 use Rattle.xv_model.proofs.Regions.{each_after}
@@ -18,7 +19,7 @@ use Rattle.xv_model.proofs.Steps.{EffectsKeep, step_keeps}
 
 -- the point of a view
 abbrev pub QueuesOf : Job → View → Type 0
-QueuesOf job w = QueuesWait job.shape w.phase w.disks (next_operation job w)
+QueuesOf job w = QueuesWait job.copy w.phase w.disks (next_operation job w)
 
 -- how often a guest waits
 waits_in-place : (ws : List Waiting) (i g : ℕ) → i < length ws → (get_or ws i no_waiting).guest.0 ≡ g → 0 < waits_in ws g
@@ -116,17 +117,17 @@ join_disk shape p next d k g unit old new i l =
     ]
 
 joined_queues : (job : Job) (v : View) (g : ℕ) → IsGoodJob job → IsViewOf job v → GuestGoes job v g → MeansJoin job v (next_operation job v g) →
-    QueuesWait job.shape v.phase (set v.disks (disk_of job.shape (next_operation job v g).unit.0) (joined (disk v (disk_of job.shape (next_operation job v g).unit.0)) g (next_operation job v g).unit.0)) (next_operation job v)
+    QueuesWait job.copy v.phase (set v.disks (disk_of job.copy (next_operation job v g).unit.0) (joined (disk v (disk_of job.copy (next_operation job v g).unit.0)) g (next_operation job v g).unit.0)) (next_operation job v)
 joined_queues job v g good i goes means =
     let op = next_operation job v g in
     let unit = op.unit.0 in
-    let d = disk_of job.shape unit in
+    let d = disk_of job.copy unit in
     let q = i.queues in
-    let inside = ltb-true (block_of job.shape unit) ((disk v d).cursor + (disk v d).region) (and_parts (nat_le (disk v d).cursor (block_of job.shape unit)) (nat_lt (block_of job.shape unit) ((disk v d).cursor + (disk v d).region)) means.inside).1 in
-    set_queues job.shape v.phase v.disks (next_operation job v) d (joined (disk v d) g unit) q
+    let inside = ltb-true (block_of job.copy unit) ((disk v d).cursor + (disk v d).region) (and_parts (nat_le (disk v d).cursor (block_of job.copy unit)) (nat_lt (block_of job.copy unit) ((disk v d).cursor + (disk v d).region)) means.inside).1 in
+    set_queues job.copy v.phase v.disks (next_operation job v) d (joined (disk v d) g unit) q
     (λ x. join_once v.disks d g unit x q.once (in_queue-waits_in_all v.disks g goes.in_no_queue))
-    (join_disk job.shape v.phase (next_operation job v) d (disk v d) g unit (each_waits job.shape v.phase v.disks (next_operation job v) q d) (record {
-      of_disk = (means.block, (good.legal g (ended v.history g) goes.more).unit_is, refl);
+    (join_disk job.copy v.phase (next_operation job v) d (disk v d) g unit (each_waits job.copy v.phase v.disks (next_operation job v) q d) (record {
+      of_disk = (means.block, mirror_unit job v g good goes, refl);
       to_write = and_from (is_some op.write) (unit == unit) means.writes (eq-eqb unit unit refl);
       not_ahead = λ r. inside;
     }))
@@ -148,7 +149,7 @@ gone_guest ds d once some =
     omega (arith, once g, waits_in_all-set ds d (front_gone k) g, waits_in-front k.queue g some refl)
 
 -- one more entry of a guest that waits nowhere
-pushed_queues : (job : Job) (p : Phase) (ds : List Disk) (h : List Ended) (e : Ended) → QueuesWait job.shape p ds (λ g. operation job g (ended h g)) → waits_in_all ds e.guest.0 ≡ 0 → QueuesWait job.shape p ds (λ g. operation job g (ended (push h e) g))
+pushed_queues : (job : Job) (p : Phase) (ds : List Disk) (h : List Ended) (e : Ended) → QueuesWait job.copy p ds (λ g. operation job g (ended h g)) → waits_in_all ds e.guest.0 ≡ 0 → QueuesWait job.copy p ds (λ g. operation job g (ended (push h e) g))
 pushed_queues job p ds h e q none = record {
   once = q.once;
   of_disk = q.of_disk;
@@ -194,11 +195,11 @@ queues-keep job v good i =
     record {
       guest = λ g m goes. guest_queues job v g (next_aim job v g) good i goes (λ e. aim-join job v (next_operation job v g) e);
       guest_fault = λ g m goes. pushed_queues job v.phase v.disks v.history (record { guest = record { 0 = g }; outcome = Faulted }) q (in_queue-waits_in_all v.disks g goes.in_no_queue);
-      begin = λ d l goes. same_queue job.shape v.phase v.disks next d (disk v d).cursor (region_length job v d) 0 q (omega (arith, goes.no_region));
-      read = λ d l goes. same_queue job.shape v.phase v.disks next d (disk v d).cursor (disk v d).region ((disk v d).got + 1) q (omega arith);
-      advance = λ d l goes. same_queue job.shape v.phase v.disks next d ((disk v d).cursor + (disk v d).region) 0 0 q (omega arith);
-      release = λ d l goes. pushed_queues job v.phase (set v.disks d (front_gone (disk v d))) v.history (record { guest = (front (disk v d)).guest; outcome = Done }) (gone_queues job.shape v.phase v.disks next d q) (gone_guest v.disks d q.once goes.some_queue);
-      release_fault = λ d l goes. pushed_queues job v.phase (set v.disks d (front_gone (disk v d))) v.history (record { guest = record { 0 = (front (disk v d)).guest.0 }; outcome = Faulted }) (gone_queues job.shape v.phase v.disks next d q) (gone_guest v.disks d q.once goes.some_queue);
+      begin = λ d l goes. same_queue job.copy v.phase v.disks next d (disk v d).cursor (region_length job v d) 0 q (omega (arith, goes.no_region));
+      read = λ d l goes. same_queue job.copy v.phase v.disks next d (disk v d).cursor (disk v d).region ((disk v d).got + 1) q (omega arith);
+      advance = λ d l goes. same_queue job.copy v.phase v.disks next d ((disk v d).cursor + (disk v d).region) 0 0 q (omega arith);
+      release = λ d l goes. pushed_queues job v.phase (set v.disks d (front_gone (disk v d))) v.history (record { guest = (front (disk v d)).guest; outcome = Done }) (gone_queues job.copy v.phase v.disks next d q) (gone_guest v.disks d q.once goes.some_queue);
+      release_fault = λ d l goes. pushed_queues job v.phase (set v.disks d (front_gone (disk v d))) v.history (record { guest = record { 0 = (front (disk v d)).guest.0 }; outcome = Faulted }) (gone_queues job.copy v.phase v.disks next d q) (gone_guest v.disks d q.once goes.some_queue);
       round = λ goes. q;
       page = λ goes. q;
       send = λ s m goes. q;
@@ -206,10 +207,10 @@ queues-keep job v good i =
       apply = λ goes. q;
       ack = λ goes. q;
       credit = λ goes. q;
-      stun = λ goes. still_queues job.shape v.phase Stunned v.disks next q refl;
-      switch = λ goes. still_queues job.shape v.phase Switched v.disks next q refl;
-      cancel = λ goes. given_up_queues job.shape v.phase Cancelled v.disks next q refl;
-      fail = λ live. given_up_queues job.shape v.phase Failed v.disks next q refl;
+      stun = λ goes. still_queues job.copy v.phase Stunned v.disks next q refl;
+      switch = λ goes. still_queues job.copy v.phase Switched v.disks next q refl;
+      cancel = λ goes. given_up_queues job.copy v.phase Cancelled v.disks next q refl;
+      fail = λ live. given_up_queues job.copy v.phase Failed v.disks next q refl;
     }
 
 pub queues-step : (job : Job) (v : View) (e : Event) (flag : Bool) → IsGoodJob job → fits job e ≡ true → IsViewOf job v → QueuesOf job (step job v e flag)

@@ -69,7 +69,7 @@ live_quiet job v w q live p ds di ro st ma =
     let keep = λ (h : (is_stunned w.phase || is_switched w.phase) ≡ true). subst (λ x. (is_stunned x || is_switched x) ≡ true) p h in
     let stop = λ (h : is_switched w.phase ≡ true). live_not_switched v.phase live (subst (λ x. is_switched x ≡ true) p h) in
     record {
-      all_copied = λ h. subst (λ x. all_copied_by (map (λ s. s.blocks) job.shape.disks) x ≡ true) (sym ds) (q.all_copied (keep h));
+      all_copied = λ h. subst (λ x. all_copied_by (map (λ s. s.blocks) job.copy.disks) x ≡ true) (sym ds) (q.all_copied (keep h));
       no_queue = λ h. subst (λ x. queues_empty x ≡ true) (sym ds) (q.no_queue (keep h));
       none_dirty = λ h. subst (λ x. is_empty_set x ≡ true) (sym di) (q.none_dirty (keep h));
       some_round = λ h. subst (λ x. 1 ≤ x) (sym ro) (q.some_round (keep h));

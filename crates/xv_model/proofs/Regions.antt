@@ -61,7 +61,7 @@ nothing_read [] i = refl
 nothing_read (d ∷ ds) zero = refl
 nothing_read (d ∷ ds) (suc i) = nothing_read ds i
 
-given_up_regions : (job : Job) (v : View) (p : Phase) → IsViewOf job v → RegionsFit job.shape job.config.region p (given_up v p).disks
+given_up_regions : (job : Job) (v : View) (p : Phase) → IsViewOf job v → RegionsFit job.copy job.config.region p (given_up v p).disks
 given_up_regions job v p i =
     let r = i.regions in
     record {
@@ -78,10 +78,10 @@ copied_region [] (k ∷ ds) d e h = absurd (omega arith)
 copied_region (n ∷ ns) (k ∷ ds) zero e h = eqb-true k.region 0 (and_parts (k.cursor == n) (k.region == 0) (and_parts (is_copied n k) (all_copied_by ns ds) h).0).1
 copied_region (n ∷ ns) (k ∷ ds) (suc d) e h = copied_region ns ds d (omega arith) (and_parts (is_copied n k) (all_copied_by ns ds) h).1
 
-guest_regions : (job : Job) (v : View) (g : ℕ) (op : UnitOp) (a : Aim) → IsViewOf job v → RegionsFit job.shape job.config.region v.phase (guest_by job v g op a).disks
+guest_regions : (job : Job) (v : View) (g : ℕ) (op : UnitOp) (a : Aim) → IsViewOf job v → RegionsFit job.copy job.config.region v.phase (guest_by job v g op a).disks
 guest_regions job v g op Alone i = i.regions
 guest_regions job v g op Store i = i.regions
-guest_regions job v g op Join i = queue_regions job.shape job.config.region v.phase v.disks (disk_of job.shape op.unit.0) (joined (disk v (disk_of job.shape op.unit.0)) g op.unit.0) i.regions refl refl refl
+guest_regions job v g op Join i = queue_regions job.copy job.config.region v.phase v.disks (disk_of job.copy op.unit.0) (joined (disk v (disk_of job.copy op.unit.0)) g op.unit.0) i.regions refl refl refl
 guest_regions job v g op Mirror i = i.regions
 
 begun_fits : (cursor region limit all : ℕ) → cursor + region ≤ all → (cursor + min limit (all - cursor) ≤ all) × (min limit (all - cursor) ≤ limit)
@@ -90,37 +90,37 @@ begun_fits cursor region limit all h = (omega arith, omega arith)
 stops : (running : Bool) (k : ℕ) → running ≡ true → running ≡ false → k ≡ 0
 stops running k h s = absurd (true≢false (sym h ∙ s))
 
-pub regions-keep : (job : Job) (v : View) → IsGoodJob job → IsViewOf job v → EffectsKeep (λ w. RegionsFit job.shape job.config.region w.phase w.disks) job v
+pub regions-keep : (job : Job) (v : View) → IsGoodJob job → IsViewOf job v → EffectsKeep (λ w. RegionsFit job.copy job.config.region w.phase w.disks) job v
 regions-keep job v good i =
     let r = i.regions in
-    let in_view = λ (d : ℕ) (l : d < length job.shape.disks). subst (λ n. d < n) (sym i.lists.disks) l in
+    let in_view = λ (d : ℕ) (l : d < length job.copy.disks). subst (λ n. d < n) (sym i.lists.disks) l in
     record {
       guest = λ g m goes. guest_regions job v g (next_operation job v g) (next_aim job v g) i;
       guest_fault = λ g m goes. r;
       begin = λ d l goes.
-          let f = begun_fits (disk v d).cursor (disk v d).region job.config.region (blocks job.shape.disks d) (r.cursor_fits d (in_view d l)) in
-          set_regions job.shape job.config.region v.phase v.disks d (record (disk v d) { region = region_length job v d; got = 0 }) r (in_view d l) (record {
+          let f = begun_fits (disk v d).cursor (disk v d).region job.config.region (blocks job.copy.disks d) (r.cursor_fits d (in_view d l)) in
+          set_regions job.copy job.config.region v.phase v.disks d (record (disk v d) { region = region_length job v d; got = 0 }) r (in_view d l) (record {
             cursor = f.0;
             region = f.1;
             read = omega arith;
             only = stops (is_running v.phase) (region_length job v d) goes.running;
           });
       read = λ d l goes.
-          set_regions job.shape job.config.region v.phase v.disks d (record (disk v d) { got = (disk v d).got + 1 }) r (in_view d l) (record {
+          set_regions job.copy job.config.region v.phase v.disks d (record (disk v d) { got = (disk v d).got + 1 }) r (in_view d l) (record {
             cursor = r.cursor_fits d (in_view d l);
             region = r.region_fits d;
             read = omega (arith, goes.not_read);
             only = r.only_running d;
           });
       advance = λ d l goes.
-          set_regions job.shape job.config.region v.phase v.disks d (record (disk v d) { cursor = (disk v d).cursor + (disk v d).region; region = 0; got = 0 }) r (in_view d l) (record {
+          set_regions job.copy job.config.region v.phase v.disks d (record (disk v d) { cursor = (disk v d).cursor + (disk v d).region; region = 0; got = 0 }) r (in_view d l) (record {
             cursor = omega (arith, r.cursor_fits d (in_view d l));
             region = omega arith;
             read = omega arith;
             only = λ _. refl;
           });
-      release = λ d l goes. queue_regions job.shape job.config.region v.phase v.disks d (front_gone (disk v d)) r refl refl refl;
-      release_fault = λ d l goes. queue_regions job.shape job.config.region v.phase v.disks d (front_gone (disk v d)) r refl refl refl;
+      release = λ d l goes. queue_regions job.copy job.config.region v.phase v.disks d (front_gone (disk v d)) r refl refl refl;
+      release_fault = λ d l goes. queue_regions job.copy job.config.region v.phase v.disks d (front_gone (disk v d)) r refl refl refl;
       round = λ goes. r;
       page = λ goes. r;
       send = λ s m goes. r;
@@ -132,7 +132,7 @@ regions-keep job v good i =
         cursor_fits = r.cursor_fits;
         region_fits = r.region_fits;
         read_fits = r.read_fits;
-        only_running = λ d stop. copied_region (map (λ s. s.blocks) job.shape.disks) v.disks d (i.lists.disks ∙ sym (length-map job.shape.disks (λ s. s.blocks))) goes.copied;
+        only_running = λ d stop. copied_region (map (λ s. s.blocks) job.copy.disks) v.disks d (i.lists.disks ∙ sym (length-map job.copy.disks (λ s. s.blocks))) goes.copied;
       };
       switch = λ goes. record {
         cursor_fits = r.cursor_fits;
@@ -144,5 +144,5 @@ regions-keep job v good i =
       fail = λ live. given_up_regions job v Failed i;
     }
 
-pub regions-step : (job : Job) (v : View) (e : Event) (flag : Bool) → IsGoodJob job → fits job e ≡ true → IsViewOf job v → RegionsFit job.shape job.config.region (step job v e flag).phase (step job v e flag).disks
-regions-step job v e flag good f i = step_keeps (λ w. RegionsFit job.shape job.config.region w.phase w.disks) job v e flag f i.regions (regions-keep job v good i)
+pub regions-step : (job : Job) (v : View) (e : Event) (flag : Bool) → IsGoodJob job → fits job e ≡ true → IsViewOf job v → RegionsFit job.copy job.config.region (step job v e flag).phase (step job v e flag).disks
+regions-step job v e flag good f i = step_keeps (λ w. RegionsFit job.copy job.config.region w.phase w.disks) job v e flag f i.regions (regions-keep job v good i)

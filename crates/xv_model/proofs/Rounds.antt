@@ -18,7 +18,7 @@ use Rattle.xv_model.proofs.Steps.{EffectsKeep, step_keeps}
 
 -- the point of a view
 abbrev pub CountsRounds : Job → View → Type 0
-CountsRounds job w = RoundsCount job.shape.pages job.format job.config.rounds (length w.history) w.phase (all_copied job w) w.dirty w.to_send w.rounds w.outbox.issued
+CountsRounds job w = RoundsCount job.copy.pages job.format job.config.rounds (length w.history) w.phase (all_copied job w) w.dirty w.to_send w.rounds w.outbox.issued
 
 -- a disk of those that are copied
 pub copied_at : (ss : List DiskShape) (ds : List Disk) (d : ℕ) → d < length ss → length ds ≡ length ss → all_copied_by (map (λ s. s.blocks) ss) ds ≡ true → ((get_or ds d no_disk).cursor ≡ blocks ss d) × ((get_or ds d no_disk).region ≡ 0)
@@ -48,11 +48,11 @@ back_false true new h e = absurd (both_ways new e (h refl))
 back_false false new h e = refl
 
 -- what the copy's events need
-begun_before : (job : Job) (v : View) (d : ℕ) → IsViewOf job v → d < length job.shape.disks → ((disk v d).cursor ≡ blocks job.shape.disks d → ⊥) → all_copied job v ≡ false
-begun_before job v d i l n = false_from_ne_true (all_copied job v) (λ h. n (copied_at job.shape.disks v.disks d l i.lists.disks h).0)
+begun_before : (job : Job) (v : View) (d : ℕ) → IsViewOf job v → d < length job.copy.disks → ((disk v d).cursor ≡ blocks job.copy.disks d → ⊥) → all_copied job v ≡ false
+begun_before job v d i l n = false_from_ne_true (all_copied job v) (λ h. n (copied_at job.copy.disks v.disks d l i.lists.disks h).0)
 
-region_before : (job : Job) (v : View) (d : ℕ) → IsViewOf job v → d < length job.shape.disks → 0 < (disk v d).region → all_copied job v ≡ false
-region_before job v d i l n = false_from_ne_true (all_copied job v) (λ h. omega (arith, n, (copied_at job.shape.disks v.disks d l i.lists.disks h).1))
+region_before : (job : Job) (v : View) (d : ℕ) → IsViewOf job v → d < length job.copy.disks → 0 < (disk v d).region → all_copied job v ≡ false
+region_before job v d i l n = false_from_ne_true (all_copied job v) (λ h. omega (arith, n, (copied_at job.copy.disks v.disks d l i.lists.disks h).1))
 
 -- the point stays where the history grows, no page's versions do, and a copied job stays copied
 rounds_kept : (pages format limit n n' : ℕ) (p p' : Phase) (copied copied' : Bool) (dirty to_send : List Bool) (rounds : ℕ) (issued issued' : List ℕ) →
@@ -94,37 +94,37 @@ stored_rounds pages format limit n n' p copied dirty to_send rounds issued unit 
   limited_beside = λ f. omega (arith, r.limited_beside f, e);
 }
 
-guest_rounds : (job : Job) (v : View) (g : ℕ) (op : UnitOp) (a : Aim) → IsViewOf job v → (a ≡ Mirror → is_page job.shape op.unit.0 ≡ false) → CountsRounds job (guest_by job v g op a)
+guest_rounds : (job : Job) (v : View) (g : ℕ) (op : UnitOp) (a : Aim) → IsViewOf job v → (a ≡ Mirror → is_page job.copy op.unit.0 ≡ false) → CountsRounds job (guest_by job v g op a)
 guest_rounds job v g op Alone i block =
-    rounds_kept job.shape.pages job.format job.config.rounds (length v.history) _ v.phase v.phase (all_copied job v) (all_copied job v) v.dirty v.to_send v.rounds v.outbox.issued v.outbox.issued i.rounds
+    rounds_kept job.copy.pages job.format job.config.rounds (length v.history) _ v.phase v.phase (all_copied job v) (all_copied job v) v.dirty v.to_send v.rounds v.outbox.issued v.outbox.issued i.rounds
     (omega (arith, length_push v.history (record { guest = record { 0 = g }; outcome = Done }))) (λ h. h) (λ page l. refl) (omega arith)
 guest_rounds job v g op Store i block =
-    stored_rounds job.shape.pages job.format job.config.rounds (length v.history) _ v.phase (all_copied job v) v.dirty v.to_send v.rounds v.outbox.issued op.unit.0 i.rounds (length_push v.history (record { guest = record { 0 = g }; outcome = Done }))
+    stored_rounds job.copy.pages job.format job.config.rounds (length v.history) _ v.phase (all_copied job v) v.dirty v.to_send v.rounds v.outbox.issued op.unit.0 i.rounds (length_push v.history (record { guest = record { 0 = g }; outcome = Done }))
 guest_rounds job v g op Join i block =
-    rounds_kept job.shape.pages job.format job.config.rounds (length v.history) (length v.history) v.phase v.phase (all_copied job v) _ v.dirty v.to_send v.rounds v.outbox.issued v.outbox.issued i.rounds
-    (omega arith) (λ h. sym (copied-set_same (map (λ s. s.blocks) job.shape.disks) v.disks (disk_of job.shape op.unit.0) (joined (disk v (disk_of job.shape op.unit.0)) g op.unit.0) refl refl) ∙ h) (λ page l. refl) (omega arith)
+    rounds_kept job.copy.pages job.format job.config.rounds (length v.history) (length v.history) v.phase v.phase (all_copied job v) _ v.dirty v.to_send v.rounds v.outbox.issued v.outbox.issued i.rounds
+    (omega arith) (λ h. sym (copied-set_same (map (λ s. s.blocks) job.copy.disks) v.disks (disk_of job.copy op.unit.0) (joined (disk v (disk_of job.copy op.unit.0)) g op.unit.0) refl refl) ∙ h) (λ page l. refl) (omega arith)
 guest_rounds job v g op Mirror i block =
-    rounds_kept job.shape.pages job.format job.config.rounds (length v.history) _ v.phase v.phase (all_copied job v) (all_copied job v) v.dirty v.to_send v.rounds v.outbox.issued _ i.rounds
-    (omega (arith, length_push v.history (record { guest = record { 0 = g }; outcome = Done }))) (λ h. h) (λ page l. other_issued v.outbox.issued op.unit.0 _ job.shape.pages page (block_above job.shape op.unit.0 (block refl)) l) (omega arith)
+    rounds_kept job.copy.pages job.format job.config.rounds (length v.history) _ v.phase v.phase (all_copied job v) (all_copied job v) v.dirty v.to_send v.rounds v.outbox.issued _ i.rounds
+    (omega (arith, length_push v.history (record { guest = record { 0 = g }; outcome = Done }))) (λ h. h) (λ page l. other_issued v.outbox.issued op.unit.0 _ job.copy.pages page (block_above job.copy op.unit.0 (block refl)) l) (omega arith)
 
 released_issued : (r : Bool) (box : Outbox) (unit at pages page : ℕ) → pages ≤ unit → page < pages → number (if r then made box unit at else box).issued page ≡ number box.issued page
 released_issued true box unit at pages page le l = other_issued box.issued unit (number box.issued unit + 1) pages page le l
 released_issued false box unit at pages page le l = refl
 
-same_queue : (job : Job) (v : View) (d : ℕ) → all_copied_by (map (λ s. s.blocks) job.shape.disks) (set v.disks d (front_gone (disk v d))) ≡ all_copied job v
-same_queue job v d = copied-set_same (map (λ s. s.blocks) job.shape.disks) v.disks d (front_gone (disk v d)) refl refl
+same_queue : (job : Job) (v : View) (d : ℕ) → all_copied_by (map (λ s. s.blocks) job.copy.disks) (set v.disks d (front_gone (disk v d))) ≡ all_copied job v
+same_queue job v d = copied-set_same (map (λ s. s.blocks) job.copy.disks) v.disks d (front_gone (disk v d)) refl refl
 
 released_rounds : (job : Job) (v : View) (d : ℕ) → IsViewOf job v → 0 < length (disk v d).queue → CountsRounds job (released v d)
 released_rounds job v d i some =
     let w = i.queues.of_disk d 0 some in
-    rounds_kept job.shape.pages job.format job.config.rounds (length v.history) _ v.phase v.phase (all_copied job v) _ v.dirty v.to_send v.rounds v.outbox.issued _ i.rounds
+    rounds_kept job.copy.pages job.format job.config.rounds (length v.history) _ v.phase v.phase (all_copied job v) _ v.dirty v.to_send v.rounds v.outbox.issued _ i.rounds
     (omega (arith, length_push v.history (record { guest = (front (disk v d)).guest; outcome = Done }))) (λ h. sym (same_queue job v d) ∙ h)
-    (λ page l. released_issued (is_running v.phase) v.outbox (front (disk v d)).unit.0 (length v.history + 1) job.shape.pages page (block_above job.shape (front (disk v d)).unit.0 w.0) l) (omega arith)
+    (λ page l. released_issued (is_running v.phase) v.outbox (front (disk v d)).unit.0 (length v.history + 1) job.copy.pages page (block_above job.copy (front (disk v d)).unit.0 w.0) l) (omega arith)
 
-advanced_rounds : (job : Job) (v : View) (d : ℕ) → IsViewOf job v → d < length job.shape.disks → 0 < (disk v d).region → CountsRounds job (advanced job v d)
+advanced_rounds : (job : Job) (v : View) (d : ℕ) → IsViewOf job v → d < length job.copy.disks → 0 < (disk v d).region → CountsRounds job (advanced job v d)
 advanced_rounds job v d i m some =
-    let above = (numbered job.shape).no_page d (disk v d).cursor in
-    rounds_kept job.shape.pages job.format job.config.rounds (length v.history) (length v.history) v.phase v.phase (all_copied job v) _ v.dirty v.to_send v.rounds v.outbox.issued _ i.rounds
+    let above = (numbered job.copy).no_page d (disk v d).cursor in
+    rounds_kept job.copy.pages job.format job.config.rounds (length v.history) (length v.history) v.phase v.phase (all_copied job v) _ v.dirty v.to_send v.rounds v.outbox.issued _ i.rounds
     (omega arith) (λ h. region_before job v d i m some) (λ page l. issued-run-other v.outbox (cursor_unit job v d) (length v.history) (disk v d).region page (inl (omega (arith, above, l)))) (omega arith)
 
 -- a page that is sent off
@@ -209,42 +209,42 @@ phase_up false = omega arith
 
 given_up_rounds : (job : Job) (v : View) (p : Phase) → IsViewOf job v → is_running p ≡ false → CountsRounds job (given_up v p)
 given_up_rounds job v p i stops =
-    rounds_kept job.shape.pages job.format job.config.rounds (length v.history) (length v.history) v.phase p (all_copied job v) _ v.dirty v.to_send v.rounds v.outbox.issued v.outbox.issued i.rounds
-    (omega arith) (back_false (all_copied job v) _ (copied_without (map (λ s. s.blocks) job.shape.disks) v.disks)) (λ page l. refl)
+    rounds_kept job.copy.pages job.format job.config.rounds (length v.history) (length v.history) v.phase p (all_copied job v) _ v.dirty v.to_send v.rounds v.outbox.issued v.outbox.issued i.rounds
+    (omega arith) (back_false (all_copied job v) _ (copied_without (map (λ s. s.blocks) job.copy.disks) v.disks)) (λ page l. refl)
     (subst (λ b. (if is_running v.phase then 0 else 1) ≤ (if b then 0 else 1)) (sym stops) (phase_up (is_running v.phase)))
 
 pub rounds-keep : (job : Job) (v : View) → IsGoodJob job → IsViewOf job v → EffectsKeep (CountsRounds job) job v
 rounds-keep job v good i =
     let r = i.rounds in
-    let ns = map (λ (s : DiskShape). s.blocks) job.shape.disks in
+    let ns = map (λ (s : DiskShape). s.blocks) job.copy.disks in
     record {
       guest = λ g m goes.
           let op = next_operation job v g in
           guest_rounds job v g op (next_aim job v g) i (λ e. (aim-mirror job v op e).block);
       guest_fault = λ g m goes.
-          rounds_kept job.shape.pages job.format job.config.rounds (length v.history) _ v.phase v.phase (all_copied job v) (all_copied job v) v.dirty v.to_send v.rounds v.outbox.issued v.outbox.issued r
+          rounds_kept job.copy.pages job.format job.config.rounds (length v.history) _ v.phase v.phase (all_copied job v) (all_copied job v) v.dirty v.to_send v.rounds v.outbox.issued v.outbox.issued r
           (omega (arith, length_push v.history (record { guest = record { 0 = g }; outcome = Faulted }))) (λ h. h) (λ page l. refl) (omega arith);
       begin = λ d l goes.
-          rounds_kept job.shape.pages job.format job.config.rounds (length v.history) (length v.history) v.phase v.phase (all_copied job v) _ v.dirty v.to_send v.rounds v.outbox.issued v.outbox.issued r
+          rounds_kept job.copy.pages job.format job.config.rounds (length v.history) (length v.history) v.phase v.phase (all_copied job v) _ v.dirty v.to_send v.rounds v.outbox.issued v.outbox.issued r
           (omega arith) (λ h. begun_before job v d i l goes.not_copied) (λ page p. refl) (omega arith);
       read = λ d l goes.
-          rounds_kept job.shape.pages job.format job.config.rounds (length v.history) (length v.history) v.phase v.phase (all_copied job v) _ v.dirty v.to_send v.rounds v.outbox.issued v.outbox.issued r
+          rounds_kept job.copy.pages job.format job.config.rounds (length v.history) (length v.history) v.phase v.phase (all_copied job v) _ v.dirty v.to_send v.rounds v.outbox.issued v.outbox.issued r
           (omega arith) (λ h. sym (copied-set_same ns v.disks d (record (disk v d) { got = (disk v d).got + 1 }) refl refl) ∙ h) (λ page p. refl) (omega arith);
       advance = λ d l goes. advanced_rounds job v d i l goes.some_region;
       release = λ d l goes. released_rounds job v d i goes.some_queue;
       release_fault = λ d l goes.
-          rounds_kept job.shape.pages job.format job.config.rounds (length v.history) _ v.phase v.phase (all_copied job v) _ v.dirty v.to_send v.rounds v.outbox.issued v.outbox.issued r
+          rounds_kept job.copy.pages job.format job.config.rounds (length v.history) _ v.phase v.phase (all_copied job v) _ v.dirty v.to_send v.rounds v.outbox.issued v.outbox.issued r
           (omega (arith, length_push v.history (record { guest = record { 0 = (front (disk v d)).guest.0 }; outcome = Faulted }))) (λ h. sym (same_queue job v d) ∙ h) (λ page p. refl) (omega arith);
-      round = λ goes. round_rounds job.shape.pages job.format job.config.rounds (length v.history) v.phase (all_copied job v) v.dirty v.to_send v.rounds v.outbox.issued r goes.below_limit goes.format_two goes.some_dirty;
+      round = λ goes. round_rounds job.copy.pages job.format job.config.rounds (length v.history) v.phase (all_copied job v) v.dirty v.to_send v.rounds v.outbox.issued r goes.below_limit goes.format_two goes.some_dirty;
       page = λ goes. page_rounds job v i goes.is_member;
       send = λ s m goes. r;
       deliver = λ s m goes. r;
       apply = λ goes. r;
       ack = λ goes. r;
       credit = λ goes. r;
-      stun = λ goes. stunned_rounds job.shape.pages job.format job.config.rounds (length v.history) v.phase (all_copied job v) v.dirty v.to_send v.rounds v.outbox.issued r goes.running goes.copied;
+      stun = λ goes. stunned_rounds job.copy.pages job.format job.config.rounds (length v.history) v.phase (all_copied job v) v.dirty v.to_send v.rounds v.outbox.issued r goes.running goes.copied;
       switch = λ goes.
-          rounds_kept job.shape.pages job.format job.config.rounds (length v.history) (length v.history) v.phase Switched (all_copied job v) (all_copied job v) v.dirty v.to_send v.rounds v.outbox.issued v.outbox.issued r
+          rounds_kept job.copy.pages job.format job.config.rounds (length v.history) (length v.history) v.phase Switched (all_copied job v) (all_copied job v) v.dirty v.to_send v.rounds v.outbox.issued v.outbox.issued r
           (omega arith) (λ h. h) (λ page p. refl) (phase_up (is_running v.phase));
       cancel = λ goes. given_up_rounds job v Cancelled i refl;
       fail = λ live. given_up_rounds job v Failed i refl;

@@ -14,6 +14,7 @@ use Rattle.xv_model.specs.Invariant.{TipCovers, IsTip, EachVersionOnce, IsViewOf
 use Rattle.xv_base.specs.declared.event.Phase.TheVariants.{Running, Stunned, Switched, Cancelled, Failed}
 use Rattle.xv_base.specs.declared.operation.Outcome.TheVariants.{Done, Faulted}
 use Rattle.xv_base.specs.declared.event.Event.TheVariants.{Guest, Begin, Read, Advance, Release, Round, Page, Send, Deliver, Apply, Ack, Credit, Stun, Switch, Cancel}
+use Rattle.xv_model.proofs.Facts.{mirror_unit}
 use Rattle.xv_model.proofs.GoesOn.{aim-alone, aim-store, aim-mirror, MeansAlone, GuestGoes, guest_goes, advance_goes, ReleaseGoes, release_goes, RoundGoes, round_goes, PageGoes, page_goes, ApplyGoes, apply_goes, StunGoes, stun_goes, running_is_live, live_is_running, queues_empty-queue, none-member, member-none, member-set_same, member-set_other}
 use Rattle.xv_model.proofs.Layouts.{SameCursors, cursors_kept, no_regions, same_settled, behind_after, settled_cases, settled_page, settled_block, page_below, behind_block, cursor_of}
 use Rattle.xv_model.proofs.Histories.{push, wrote-push_before, wrote-push_at}
@@ -23,7 +24,7 @@ use Rattle.xv_model.proofs.Steps.{step_cases}
 use Rattle.xv_model.proofs.Unsent.{front_is, run_cases, run_fits}
 
 abbrev pub settled_of : Job → View → ℕ → Bool
-settled_of job v = is_settled job.shape v.disks v.dirty v.to_send
+settled_of job v = is_settled job.copy v.disks v.dirty v.to_send
 
 abbrev pub TipsOf : Job → View → Type 0
 TipsOf job v = TipCovers (wrote job v.history) v.mark (outstanding v) v.outbox.issued v.hold.applied v.hold.recorded (settled_of job v)
@@ -106,11 +107,11 @@ tip_one v new unit at a m once t =
 
 -- what leaves every cursor
 tips_cursors : (job : Job) (v : View) (ds : List Disk) → SameCursors ds v.disks → TipsOf job v → TipsOf job (record v { disks = ds })
-tips_cursors job v ds same h = subst (TipCovers (wrote job v.history) v.mark (outstanding v) v.outbox.issued v.hold.applied v.hold.recorded) (sym (same_settled job.shape ds v.disks v.dirty v.to_send same)) h
+tips_cursors job v ds same h = subst (TipCovers (wrote job v.history) v.mark (outstanding v) v.outbox.issued v.hold.applied v.hold.recorded) (sym (same_settled job.copy ds v.disks v.dirty v.to_send same)) h
 
 -- an operation ended that wrote to no settled unit
-pub tips_ended : (job : Job) (v : View) (e : Ended) (dirty : List Bool) → IsViewOf job v → ((unit : ℕ) → is_settled job.shape v.disks dirty v.to_send unit ≡ true → settled_of job v unit ≡ true) →
-    ((unit : ℕ) → is_settled job.shape v.disks dirty v.to_send unit ≡ true → is_live v.phase ≡ true → wrote job (push v.history e) unit (length v.history) ≡ false) →
+pub tips_ended : (job : Job) (v : View) (e : Ended) (dirty : List Bool) → IsViewOf job v → ((unit : ℕ) → is_settled job.copy v.disks dirty v.to_send unit ≡ true → settled_of job v unit ≡ true) →
+    ((unit : ℕ) → is_settled job.copy v.disks dirty v.to_send unit ≡ true → is_live v.phase ≡ true → wrote job (push v.history e) unit (length v.history) ≡ false) →
     TipsOf job (record v { history = push v.history e; mark = if is_live v.phase then length v.history + 1 else v.mark; dirty = dirty })
 tips_ended job v e dirty inv before none = tips_by job v (record v { history = push v.history e; mark = if is_live v.phase then length v.history + 1 else v.mark; dirty = dirty }) inv.tips (λ unit s. inl (record {
   settled = before unit s;
@@ -123,12 +124,12 @@ tips_ended job v e dirty inv before none = tips_by job v (record v { history = p
 alone_by : (job : Job) (v : View) (op : UnitOp) (unit : ℕ) → MeansAlone job v op → is_running v.phase ≡ true → settled_of job v unit ≡ true → writes_to op unit ≡ true → ⊥
 alone_by job v op unit a r s w =
     let x = writes_unit op unit w in
-    elim (settled_cases job.shape v.disks v.dirty v.to_send unit s) [
-      | inl page ↦ both_ways (is_page job.shape unit) (subst (λ u. is_page job.shape u ≡ false) x.1 (a.block r x.0)) page.0
+    elim (settled_cases job.copy v.disks v.dirty v.to_send unit s) [
+      | inl page ↦ both_ways (is_page job.copy unit) (subst (λ u. is_page job.copy u ≡ false) x.1 (a.block r x.0)) page.0
       | inr behind ↦
-          let b = behind_block job.shape v.disks unit behind in
-          let n = subst (λ u. is_behind (disk v (disk_of job.shape u)) (block_of job.shape u) ≡ false) x.1 (a.not_behind r x.0) in
-          both_ways (is_behind (disk v (disk_of job.shape unit)) (block_of job.shape unit)) n (lt-ltb (block_of job.shape unit) (cursor_of job.shape v.disks unit) b.behind)
+          let b = behind_block job.copy v.disks unit behind in
+          let n = subst (λ u. is_behind (disk v (disk_of job.copy u)) (block_of job.copy u) ≡ false) x.1 (a.not_behind r x.0) in
+          both_ways (is_behind (disk v (disk_of job.copy unit)) (block_of job.copy unit)) n (lt-ltb (block_of job.copy unit) (cursor_of job.copy v.disks unit) b.behind)
     ]
 
 pub alone_writes_none : (job : Job) (v : View) (g : ℕ) (unit : ℕ) → GuestGoes job v g → aim job v (next_operation job v g) ≡ Alone → settled_of job v unit ≡ true → is_live v.phase ≡ true → wrote job (push v.history (done_entry g)) unit (length v.history) ≡ false
@@ -150,19 +151,19 @@ stored_by false dirty page unit n = refl
 stored_is : (to_send dirty : List Bool) (page : ℕ) → page < length dirty → member to_send page ≡ false → member (if not (member to_send page) then set dirty page true else dirty) page ≡ true
 stored_is to_send dirty page l e = rw e (member-set_same dirty page true l)
 
-store_settled : (job : Job) (v : View) (page unit : ℕ) → IsViewOf job v → is_page job.shape page ≡ true → is_settled job.shape v.disks (stored v page) v.to_send unit ≡ true → (unit ≢ page) × (settled_of job v unit ≡ true)
+store_settled : (job : Job) (v : View) (page unit : ℕ) → IsViewOf job v → is_page job.copy page ≡ true → is_settled job.copy v.disks (stored v page) v.to_send unit ≡ true → (unit ≢ page) × (settled_of job v unit ≡ true)
 store_settled job v page unit inv p s =
-    let below = page_below job.shape page p in
-    elim (settled_cases job.shape v.disks (stored v page) v.to_send unit s) [
+    let below = page_below job.copy page p in
+    elim (settled_cases job.copy v.disks (stored v page) v.to_send unit s) [
       | inl q ↦
           let ne : unit ≢ page = λ e.
           both_ways (member (stored v page) page) (subst (λ u. member (stored v page) u ≡ false) e q.1)
           (stored_is v.to_send v.dirty page (omega (arith, below, inv.lists.dirty)) (subst (λ u. member v.to_send u ≡ false) e q.2)) in
-          let unit_below = page_below job.shape unit q.0 in
-          (ne, settled_page job.shape v.disks v.dirty v.to_send unit (omega (arith, unit_below)) q.0 (sym (stored_by (not (member v.to_send page)) v.dirty page unit ne) ∙ q.1) q.2)
+          let unit_below = page_below job.copy unit q.0 in
+          (ne, settled_page job.copy v.disks v.dirty v.to_send unit (omega (arith, unit_below)) q.0 (sym (stored_by (not (member v.to_send page)) v.dirty page unit ne) ∙ q.1) q.2)
       | inr b ↦
-          let block = behind_block job.shape v.disks unit b in
-          ((λ e. both_ways (is_page job.shape page) (subst (λ u. is_page job.shape u ≡ false) e block.no_page) p), settled_block job.shape v.disks v.dirty v.to_send unit b)
+          let block = behind_block job.copy v.disks unit b in
+          ((λ e. both_ways (is_page job.copy page) (subst (λ u. is_page job.copy u ≡ false) e block.no_page) p), settled_block job.copy v.disks v.dirty v.to_send unit b)
     ]
 
 -- a mirrored write's own unit has a new tip, and the others keep theirs
@@ -180,7 +181,7 @@ tips_made job v e ds u same inv live l writes =
       | inr other ↦
           let none = made-other (on_the_way v) v.outbox u (length v.history + 1) unit other in
           inl (record {
-            settled = sym (ap (λ (f : ℕ → Bool). f unit) (same_settled job.shape ds v.disks v.dirty v.to_send same)) ∙ s;
+            settled = sym (ap (λ (f : ℕ → Bool). f unit) (same_settled job.copy ds v.disks v.dirty v.to_send same)) ∙ s;
             issued = omega (arith, none.issued);
             tip = λ at t. tip_none (on_the_way v) v.outbox v'.outbox v.hold.applied v.hold.recorded unit at none t;
             written = written_none job v e unit inv (λ _. wrote_other job v.history e unit (λ x. other (x ∙ writes)));
@@ -196,10 +197,10 @@ tips_guest_by job v g Store e good inv goes =
     tips_ended job v (done_entry g) (stored v u) inv (λ unit s. (store_settled job v u unit inv page s).1) (λ unit s live. wrote_other job v.history (done_entry g) unit (store_settled job v u unit inv page s).0)
 tips_guest_by job v g Join e good inv goes =
     let op = next_operation job v g in
-    tips_cursors job v (set v.disks (disk_of job.shape op.unit.0) (joined (disk v (disk_of job.shape op.unit.0)) g op.unit.0)) (cursors_kept v.disks (disk_of job.shape op.unit.0) _ refl) inv.tips
+    tips_cursors job v (set v.disks (disk_of job.copy op.unit.0) (joined (disk v (disk_of job.copy op.unit.0)) g op.unit.0)) (cursors_kept v.disks (disk_of job.copy op.unit.0) _ refl) inv.tips
 tips_guest_by job v g Mirror e good inv goes =
     let m = aim-mirror job v (next_operation job v g) e in
-    tips_made job v (done_entry g) v.disks (next_operation job v g).unit.0 (λ i. refl) inv (running_is_live v.phase m.running) (good.legal g (ended v.history g) goes.more).unit_is refl
+    tips_made job v (done_entry g) v.disks (next_operation job v g).unit.0 (λ i. refl) inv (running_is_live v.phase m.running) (mirror_unit job v g good goes) refl
 
 pub tips-guest : (job : Job) (v : View) (g : ℕ) → IsGoodJob job → IsViewOf job v → GuestGoes job v g → TipsOf job (guest_done job v g)
 tips-guest job v g good inv goes = tips_guest_by job v g (next_aim job v g) refl good inv goes
@@ -226,10 +227,10 @@ same_round s ds dirty to_send e = λ i u.
     (sets_by (member (no_pages dirty) u) (member dirty u) true (member to_send u) (member-none (length dirty) u) (none-member to_send u e)) i
 
 pub tips-round : (job : Job) (v : View) → RoundGoes job v → IsViewOf job v → TipsOf job (round_begun v)
-tips-round job v goes inv = subst (TipCovers (wrote job v.history) v.mark (outstanding v) v.outbox.issued v.hold.applied v.hold.recorded) (sym (same_round job.shape v.disks v.dirty v.to_send goes.none_to_send)) inv.tips
+tips-round job v goes inv = subst (TipCovers (wrote job v.history) v.mark (outstanding v) v.outbox.issued v.hold.applied v.hold.recorded) (sym (same_round job.copy v.disks v.dirty v.to_send goes.none_to_send)) inv.tips
 
 pub tips-stunned : (job : Job) (v : View) → StunGoes job v → IsViewOf job v → TipsOf job (stunned v)
-tips-stunned job v goes inv = subst (TipCovers (wrote job v.history) v.mark (outstanding v) v.outbox.issued v.hold.applied v.hold.recorded) (sym (same_round job.shape v.disks v.dirty v.to_send goes.none_to_send)) inv.tips
+tips-stunned job v goes inv = subst (TipCovers (wrote job v.history) v.mark (outstanding v) v.outbox.issued v.hold.applied v.hold.recorded) (sym (same_round job.copy v.disks v.dirty v.to_send goes.none_to_send)) inv.tips
 
 pub tips-sent : (job : Job) (v : View) (s : ℕ) → s < job.config.streams → IsViewOf job v → TipsOf job (sent job v s)
 tips-sent job v s l inv = subst (λ bag. TipCovers (wrote job v.history) v.mark bag v.outbox.issued v.hold.applied v.hold.recorded (settled_of job v)) (sym (outstanding-sent-bag job v s (omega (arith, l, inv.lists.streams)))) inv.tips
@@ -239,11 +240,11 @@ tips-delivered job v s l inv = subst (λ bag. TipCovers (wrote job v.history) v.
 
 -- a page is sent off: it alone may be settled anew
 page_settled : (job : Job) (v : View) (unit : ℕ) → settled_of job (page_sent_off v) unit ≡ true → unit ≢ least v.to_send → settled_of job v unit ≡ true
-page_settled job v unit s n = elim (settled_cases job.shape v.disks v.dirty (set v.to_send (least v.to_send) false) unit s) [
+page_settled job v unit s n = elim (settled_cases job.copy v.disks v.dirty (set v.to_send (least v.to_send) false) unit s) [
   | inl q ↦
-      let below = page_below job.shape unit q.0 in
-      settled_page job.shape v.disks v.dirty v.to_send unit (omega (arith, below)) q.0 q.1 (sym (member-set_other v.to_send (least v.to_send) unit false n) ∙ q.2)
-  | inr b ↦ settled_block job.shape v.disks v.dirty v.to_send unit b
+      let below = page_below job.copy unit q.0 in
+      settled_page job.copy v.disks v.dirty v.to_send unit (omega (arith, below)) q.0 q.1 (sym (member-set_other v.to_send (least v.to_send) unit false n) ∙ q.2)
+  | inr b ↦ settled_block job.copy v.disks v.dirty v.to_send unit b
 ]
 
 pub tips-page : (job : Job) (v : View) → PageGoes job v → IsViewOf job v → TipsOf job (page_sent_off v)
@@ -269,17 +270,17 @@ tips-page job v goes inv =
 
 -- a region is sent off: its units are settled anew
 advanced_settled : (job : Job) (v : View) (d unit : ℕ) → d < length v.disks → settled_of job (advanced job v d) unit ≡ true → (unit < cursor_unit job v d) ⊎ (cursor_unit job v d + (disk v d).region ≤ unit) → settled_of job v unit ≡ true
-advanced_settled job v d unit l s out = elim (settled_cases job.shape (advanced job v d).disks v.dirty v.to_send unit s) [
+advanced_settled job v d unit l s out = elim (settled_cases job.copy (advanced job v d).disks v.dirty v.to_send unit s) [
   | inl q ↦
-      let below = page_below job.shape unit q.0 in
-      settled_page job.shape v.disks v.dirty v.to_send unit (omega (arith, below)) q.0 q.1 q.2
-  | inr b ↦ elim (behind_after job.shape v.disks d (record (disk v d) { cursor = (disk v d).cursor + (disk v d).region; region = 0; got = 0 }) unit l b) [
-    | inl old ↦ settled_block job.shape v.disks v.dirty v.to_send unit old
+      let below = page_below job.copy unit q.0 in
+      settled_page job.copy v.disks v.dirty v.to_send unit (omega (arith, below)) q.0 q.1 q.2
+  | inr b ↦ elim (behind_after job.copy v.disks d (record (disk v d) { cursor = (disk v d).cursor + (disk v d).region; region = 0; got = 0 }) unit l b) [
+    | inl old ↦ settled_block job.copy v.disks v.dirty v.to_send unit old
     | inr came ↦ absurd (elim out [ inl x ↦ omega (arith, x, came.within, came.unit) | inr x ↦ omega (arith, x, came.within, came.unit) ])
   ]
 ]
 
-pub tips-advanced : (job : Job) (v : View) (d : ℕ) → d < length job.shape.disks → is_live v.phase ≡ true → IsViewOf job v → TipsOf job (advanced job v d)
+pub tips-advanced : (job : Job) (v : View) (d : ℕ) → d < length job.copy.disks → is_live v.phase ≡ true → IsViewOf job v → TipsOf job (advanced job v d)
 tips-advanced job v d l live inv =
     let in_view : d < length v.disks = omega (arith, l, inv.lists.disks) in
     let now = inv.history.marked live in
@@ -422,7 +423,7 @@ tips_effect : (job : Job) (v : View) (e : Event) (flag : Bool) → IsGoodJob job
 tips_effect job v (Guest g) flag good f inv w = tips-guest job v g.0 good inv (guest_goes job v g.0 flag w)
 tips_effect job v (Begin d) flag good f inv w = tips-begun job v d inv
 tips_effect job v (Read d) flag good f inv w = tips-block_read job v d inv
-tips_effect job v (Advance d) flag good f inv w = tips-advanced job v d (ltb-true d (length job.shape.disks) f) (running_is_live v.phase (advance_goes job v d flag w).running) inv
+tips_effect job v (Advance d) flag good f inv w = tips-advanced job v d (ltb-true d (length job.copy.disks) f) (running_is_live v.phase (advance_goes job v d flag w).running) inv
 tips_effect job v (Release d) flag good f inv w = tips-released job v d (release_goes job v d flag w) inv
 tips_effect job v Round flag good f inv w = tips-round job v (round_goes job v flag w) inv
 tips_effect job v Page flag good f inv w = tips-page job v (page_goes job v flag w) inv

@@ -18,7 +18,7 @@ use Rattle.xv_model.proofs.Bags.{issued-run-other}
 use Rattle.xv_model.proofs.Steps.{step_cases}
 
 abbrev pub UnsentOf : Job → View → Type 0
-UnsentOf job v = UnsentHaveNone v.outbox.issued (is_unsent_block job.shape v.disks)
+UnsentOf job v = UnsentHaveNone v.outbox.issued (is_unsent_block job.copy v.disks)
 
 -- which units are not unsent blocks
 third_false : (a b c : Bool) → c ≡ true → (a && b && not c) ≡ false
@@ -48,10 +48,10 @@ behind_by block cursor region l e = elim (cases_lt block cursor) [
 ]
 
 pub record FrontIs (job : Job) (v : View) (d : ℕ) : Type 0 where
-  pub in_range : (front (disk v d)).unit.0 < units job.shape
-  pub block : is_page job.shape (front (disk v d)).unit.0 ≡ false
-  pub of_disk : disk_of job.shape (front (disk v d)).unit.0 ≡ d
-  pub behind : is_running v.phase ≡ true → is_behind (get_or v.disks (disk_of job.shape (front (disk v d)).unit.0) no_disk) (block_of job.shape (front (disk v d)).unit.0) ≡ true
+  pub in_range : (front (disk v d)).unit.0 < units job.copy
+  pub block : is_page job.copy (front (disk v d)).unit.0 ≡ false
+  pub of_disk : disk_of job.copy (front (disk v d)).unit.0 ≡ d
+  pub behind : is_running v.phase ≡ true → is_behind (get_or v.disks (disk_of job.copy (front (disk v d)).unit.0) no_disk) (block_of job.copy (front (disk v d)).unit.0) ≡ true
 
 pub front_is : (job : Job) (v : View) (d : ℕ) → IsViewOf job v → ReleaseGoes job v d → FrontIs job v d
 front_is job v d inv goes =
@@ -61,8 +61,8 @@ front_is job v d inv goes =
       block = q.0;
       of_disk = q.2;
       behind = λ r.
-          let here = behind_by (block_of job.shape (front (disk v d)).unit.0) (disk v d).cursor (disk v d).region (inv.queues.not_ahead d 0 r goes.some_queue) (goes.not_inside r) in
-          subst (λ k. is_behind (get_or v.disks k no_disk) (block_of job.shape (front (disk v d)).unit.0) ≡ true) (sym q.2) here;
+          let here = behind_by (block_of job.copy (front (disk v d)).unit.0) (disk v d).cursor (disk v d).region (inv.queues.not_ahead d 0 r goes.some_queue) (goes.not_inside r) in
+          subst (λ k. is_behind (get_or v.disks k no_disk) (block_of job.copy (front (disk v d)).unit.0) ≡ true) (sym q.2) here;
     }
 
 -- what leaves every cursor, and what makes a message for a unit that is no unsent block
@@ -81,17 +81,17 @@ unsent_set issued unsent u n e h = record {
 unsent_guest_by : (job : Job) (v : View) (g : ℕ) (op : UnitOp) (a : Aim) → aim job v op ≡ a → IsViewOf job v → UnsentOf job (guest_by job v g op a)
 unsent_guest_by job v g op Alone e inv = inv.unsent
 unsent_guest_by job v g op Store e inv = inv.unsent
-unsent_guest_by job v g op Join e inv = unsent_cursors job.shape v.disks (set v.disks (disk_of job.shape op.unit.0) (joined (disk v (disk_of job.shape op.unit.0)) g op.unit.0)) v.outbox.issued (cursors_kept v.disks (disk_of job.shape op.unit.0) _ refl) inv.unsent
-unsent_guest_by job v g op Mirror e inv = unsent_set v.outbox.issued _ op.unit.0 (number v.outbox.issued op.unit.0 + 1) (behind-not_unsent job.shape v.disks op.unit.0 (aim-mirror job v op e).behind) inv.unsent
+unsent_guest_by job v g op Join e inv = unsent_cursors job.copy v.disks (set v.disks (disk_of job.copy op.unit.0) (joined (disk v (disk_of job.copy op.unit.0)) g op.unit.0)) v.outbox.issued (cursors_kept v.disks (disk_of job.copy op.unit.0) _ refl) inv.unsent
+unsent_guest_by job v g op Mirror e inv = unsent_set v.outbox.issued _ op.unit.0 (number v.outbox.issued op.unit.0 + 1) (behind-not_unsent job.copy v.disks op.unit.0 (aim-mirror job v op e).behind) inv.unsent
 
 pub unsent-guest : (job : Job) (v : View) (g : ℕ) → IsViewOf job v → UnsentOf job (guest_done job v g)
 unsent-guest job v g inv = unsent_guest_by job v g (next_operation job v g) (next_aim job v g) refl inv
 
 pub unsent-begun : (job : Job) (v : View) (d : ℕ) → IsViewOf job v → UnsentOf job (begun job v d)
-unsent-begun job v d inv = unsent_cursors job.shape v.disks (begun job v d).disks v.outbox.issued (cursors_kept v.disks d _ refl) inv.unsent
+unsent-begun job v d inv = unsent_cursors job.copy v.disks (begun job v d).disks v.outbox.issued (cursors_kept v.disks d _ refl) inv.unsent
 
 pub unsent-block_read : (job : Job) (v : View) (d : ℕ) → IsViewOf job v → UnsentOf job (block_read v d)
-unsent-block_read job v d inv = unsent_cursors job.shape v.disks (block_read v d).disks v.outbox.issued (cursors_kept v.disks d _ refl) inv.unsent
+unsent-block_read job v d inv = unsent_cursors job.copy v.disks (block_read v d).disks v.outbox.issued (cursors_kept v.disks d _ refl) inv.unsent
 
 -- where a unit lies against a run of units
 pub run_cases : (first n u : ℕ) → ((u < first) ⊎ (first + n ≤ u)) ⊎ ((first ≤ u) × (u < first + n))
@@ -105,36 +105,36 @@ behind-is_behind s ds u h = lt-ltb (block_of s u) (cursor_of s ds u) (behind_blo
 
 -- the units of a region that is sent off were unsent, and are behind then
 pub record RunIs (job : Job) (v : View) (d u : ℕ) : Type 0 where
-  pub behind : is_behind_block job.shape (advanced job v d).disks u ≡ true
-  pub unsent : is_unsent_block job.shape v.disks u ≡ true
+  pub behind : is_behind_block job.copy (advanced job v d).disks u ≡ true
+  pub unsent : is_unsent_block job.copy v.disks u ≡ true
 
-pub run_is : (job : Job) (v : View) (d u : ℕ) → IsViewOf job v → d < length job.shape.disks → cursor_unit job v d ≤ u → u < cursor_unit job v d + (disk v d).region → RunIs job v d u
+pub run_is : (job : Job) (v : View) (d u : ℕ) → IsViewOf job v → d < length job.copy.disks → cursor_unit job v d ≤ u → u < cursor_unit job v d + (disk v d).region → RunIs job v d u
 run_is job v d u inv l a b =
     let k = u - cursor_unit job v d in
     let same : cursor_unit job v d + k ≡ u = omega (arith, a) in
     let in_view : d < length v.disks = omega (arith, l, inv.lists.disks) in
-    let now = behind_now job.shape v.disks d (record (disk v d) { cursor = (disk v d).cursor + (disk v d).region; region = 0; got = 0 }) k in_view l (inv.regions.cursor_fits d in_view) (omega (arith, a, b)) in
+    let now = behind_now job.copy v.disks d (record (disk v d) { cursor = (disk v d).cursor + (disk v d).region; region = 0; got = 0 }) k in_view l (inv.regions.cursor_fits d in_view) (omega (arith, a, b)) in
     record {
-      behind = subst (λ w. is_behind_block job.shape (advanced job v d).disks w ≡ true) same now.0;
-      unsent = subst (λ w. is_unsent_block job.shape v.disks w ≡ true) same now.1;
+      behind = subst (λ w. is_behind_block job.copy (advanced job v d).disks w ≡ true) same now.0;
+      unsent = subst (λ w. is_unsent_block job.copy v.disks w ≡ true) same now.1;
     }
 
 -- and their units are in range
-pub run_fits : (job : Job) (v : View) (d : ℕ) → d < length job.shape.disks → IsViewOf job v → 0 < (disk v d).region → cursor_unit job v d + (disk v d).region ≤ unit_count job
+pub run_fits : (job : Job) (v : View) (d : ℕ) → d < length job.copy.disks → IsViewOf job v → 0 < (disk v d).region → cursor_unit job v d + (disk v d).region ≤ unit_count job
 run_fits job v d l inv some =
     let in_view : d < length v.disks = omega (arith, l, inv.lists.disks) in
     let fits = inv.regions.cursor_fits d in_view in
-    let last = is_block_after job.shape d (disk v d).cursor ((disk v d).region - 1) l (omega (arith, fits, some)) in
+    let last = is_block_after job.copy d (disk v d).cursor ((disk v d).region - 1) l (omega (arith, fits, some)) in
     omega (arith, last.in_range, some)
 
-pub unsent-advanced : (job : Job) (v : View) (d : ℕ) → d < length job.shape.disks → IsViewOf job v → UnsentOf job (advanced job v d)
+pub unsent-advanced : (job : Job) (v : View) (d : ℕ) → d < length job.copy.disks → IsViewOf job v → UnsentOf job (advanced job v d)
 unsent-advanced job v d l inv =
     let new : Disk = record (disk v d) { cursor = (disk v d).cursor + (disk v d).region; region = 0; got = 0 } in
     let in_view : d < length v.disks = omega (arith, l, inv.lists.disks) in
     record {
       none = λ u t. elim (run_cases (cursor_unit job v d) (disk v d).region u) [
-        | inl out ↦ issued-run-other v.outbox (cursor_unit job v d) (length v.history) (disk v d).region u out ∙ inv.unsent.none u (unsent_before job.shape v.disks d new u in_view (omega arith) t)
-        | inr run ↦ absurd (both_ways (is_unsent_block job.shape (advanced job v d).disks u) (behind-not_unsent job.shape (advanced job v d).disks u (behind-is_behind job.shape (advanced job v d).disks u (run_is job v d u inv l run.0 run.1).behind)) t)
+        | inl out ↦ issued-run-other v.outbox (cursor_unit job v d) (length v.history) (disk v d).region u out ∙ inv.unsent.none u (unsent_before job.copy v.disks d new u in_view (omega arith) t)
+        | inr run ↦ absurd (both_ways (is_unsent_block job.copy (advanced job v d).disks u) (behind-not_unsent job.copy (advanced job v d).disks u (behind-is_behind job.copy (advanced job v d).disks u (run_is job v d u inv l run.0 run.1).behind)) t)
       ];
     }
 
@@ -145,29 +145,29 @@ unsent_if false unsent box u at e h = h
 pub unsent-released : (job : Job) (v : View) (d : ℕ) → ReleaseGoes job v d → IsViewOf job v → UnsentOf job (released v d)
 unsent-released job v d goes inv =
     let at_front = front_is job v d inv goes in
-    unsent_cursors job.shape v.disks (released v d).disks (released v d).outbox.issued (cursors_kept v.disks d _ refl)
-    (unsent_if (is_running v.phase) (is_unsent_block job.shape v.disks) v.outbox (front (disk v d)).unit.0 (length v.history + 1)
-    (λ r. behind-not_unsent job.shape v.disks (front (disk v d)).unit.0 (at_front.behind r)) inv.unsent)
+    unsent_cursors job.copy v.disks (released v d).disks (released v d).outbox.issued (cursors_kept v.disks d _ refl)
+    (unsent_if (is_running v.phase) (is_unsent_block job.copy v.disks) v.outbox (front (disk v d)).unit.0 (length v.history + 1)
+    (λ r. behind-not_unsent job.copy v.disks (front (disk v d)).unit.0 (at_front.behind r)) inv.unsent)
 
 pub unsent-page : (job : Job) (v : View) → PageGoes job v → IsViewOf job v → UnsentOf job (page_sent_off v)
 unsent-page job v goes inv =
-    unsent_set v.outbox.issued (is_unsent_block job.shape v.disks) (least v.to_send) (number v.outbox.issued (least v.to_send) + 1)
-    (page-not_unsent job.shape v.disks (least v.to_send) (page_from job.shape (least v.to_send) (omega (arith, goes.in_range, inv.lists.to_send)))) inv.unsent
+    unsent_set v.outbox.issued (is_unsent_block job.copy v.disks) (least v.to_send) (number v.outbox.issued (least v.to_send) + 1)
+    (page-not_unsent job.copy v.disks (least v.to_send) (page_from job.copy (least v.to_send) (omega (arith, goes.in_range, inv.lists.to_send)))) inv.unsent
 
 pub unsent-given_up : (job : Job) (v : View) (phase : Phase) → IsViewOf job v → UnsentOf job (given_up v phase)
-unsent-given_up job v phase inv = unsent_cursors job.shape v.disks (map without_region v.disks) v.outbox.issued (no_regions v.disks) inv.unsent
+unsent-given_up job v phase inv = unsent_cursors job.copy v.disks (map without_region v.disks) v.outbox.issued (no_regions v.disks) inv.unsent
 
 pub unsent-ended_as : (job : Job) (v : View) (g : ℕ) (outcome : Outcome) → IsViewOf job v → UnsentOf job (ended_as v g outcome)
 unsent-ended_as job v g outcome inv = inv.unsent
 
 pub unsent-release_fault : (job : Job) (v : View) (d : ℕ) → IsViewOf job v → UnsentOf job (fault_effect v (Release d))
-unsent-release_fault job v d inv = unsent_cursors job.shape v.disks (fault_effect v (Release d)).disks v.outbox.issued (cursors_kept v.disks d _ refl) inv.unsent
+unsent-release_fault job v d inv = unsent_cursors job.copy v.disks (fault_effect v (Release d)).disks v.outbox.issued (cursors_kept v.disks d _ refl) inv.unsent
 
 unsent_effect : (job : Job) (v : View) (e : Event) (flag : Bool) → fits job e ≡ true → IsViewOf job v → wait job v e flag ≡ None → UnsentOf job (effect job v e)
 unsent_effect job v (Guest g) flag f inv w = unsent-guest job v g.0 inv
 unsent_effect job v (Begin d) flag f inv w = unsent-begun job v d inv
 unsent_effect job v (Read d) flag f inv w = unsent-block_read job v d inv
-unsent_effect job v (Advance d) flag f inv w = unsent-advanced job v d (ltb-true d (length job.shape.disks) f) inv
+unsent_effect job v (Advance d) flag f inv w = unsent-advanced job v d (ltb-true d (length job.copy.disks) f) inv
 unsent_effect job v (Release d) flag f inv w = unsent-released job v d (release_goes job v d flag w) inv
 unsent_effect job v Round flag f inv w = inv.unsent
 unsent_effect job v Page flag f inv w = unsent-page job v (page_goes job v flag w) inv

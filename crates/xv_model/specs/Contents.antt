@@ -28,7 +28,7 @@ abbrev pub first_contents : Job → List (List ℕ) → Contents
 first_contents job dest = record {
   source = first_source job;
   dest = dest;
-  regions = map (λ _. []) job.shape.disks;
+  regions = map (λ _. []) job.copy.disks;
   outbox = [];
   streams = replicate job.config.streams [];
   held = [];

@@ -16,7 +16,7 @@ for_each_below (suc n) events = for_each_below n events ++ events n
 abbrev pub driver_events : Job → List Event
 driver_events job =
     for_each_below (guest_count job) (λ g. Guest (record { 0 = g }) ∷ [])
-    ++ for_each_below (length job.shape.disks) (λ d. Begin d ∷ Read d ∷ Advance d ∷ Release d ∷ [])
+    ++ for_each_below (length job.copy.disks) (λ d. Begin d ∷ Read d ∷ Advance d ∷ Release d ∷ [])
     ++ (Round ∷ Page ∷ [])
     ++ for_each_below job.config.streams (λ s. Send s ∷ [])
     ++ for_each_below job.config.streams (λ s. Deliver s ∷ [])

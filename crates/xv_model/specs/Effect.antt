@@ -49,7 +49,7 @@ guest_by job v guest op a = record v {
   history = if is_join a then v.history else v.history ++ record { guest = record { 0 = guest }; outcome = Done } ∷ [];
   mark = if not (is_join a) && is_live v.phase then length v.history + 1 else v.mark;
   dirty = if is_store a && not (member v.to_send op.unit.0) then set v.dirty op.unit.0 true else v.dirty;
-  disks = if is_join a then set v.disks (disk_of job.shape op.unit.0) (joined (disk v (disk_of job.shape op.unit.0)) guest op.unit.0) else v.disks;
+  disks = if is_join a then set v.disks (disk_of job.copy op.unit.0) (joined (disk v (disk_of job.copy op.unit.0)) guest op.unit.0) else v.disks;
   outbox = if is_mirror a then made v.outbox op.unit.0 (length v.history + 1) else v.outbox;
 }
 
@@ -58,7 +58,7 @@ guest_done job v guest = guest_by job v guest (next_operation job v guest) (next
 
 -- a region of the least of the limit and the blocks left
 abbrev pub region_length : Job → View → ℕ → ℕ
-region_length job v d = min job.config.region (blocks job.shape.disks d - (disk v d).cursor)
+region_length job v d = min job.config.region (blocks job.copy.disks d - (disk v d).cursor)
 
 abbrev pub begun : Job → View → ℕ → View
 begun job v d = with_disk v d (record (disk v d) { region = region_length job v d; got = 0 })
@@ -68,7 +68,7 @@ block_read v d = with_disk v d (record (disk v d) { got = (disk v d).got + 1 })
 
 -- the unit of a disk's block at the cursor
 abbrev pub cursor_unit : Job → View → ℕ → ℕ
-cursor_unit job v d = unit_of_block job.shape d (disk v d).cursor
+cursor_unit job v d = unit_of_block job.copy d (disk v d).cursor
 
 -- the region's messages are made, and its blocks are behind
 abbrev pub advanced : Job → View → ℕ → View

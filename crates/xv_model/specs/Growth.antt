@@ -44,7 +44,7 @@ abbrev pub copied : View → ℕ
 copied v = sum_by (λ d. d.cursor) v.disks
 
 abbrev pub block_count : Job → ℕ
-block_count job = blocks_of job.shape.disks
+block_count job = blocks_of job.copy.disks
 
 abbrev pub applied : View → ℕ
 applied v = sum v.hold.applied

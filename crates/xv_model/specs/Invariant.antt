@@ -148,9 +148,9 @@ are_good_groups job [] = true
 are_good_groups job (group ∷ groups) = is_good_group job group && are_good_groups job groups
 
 pub record ListsHaveLengths (job : Job) (v : View) : Type 0 where
-  pub disks : length v.disks ≡ length job.shape.disks
-  pub dirty : length v.dirty ≡ job.shape.pages
-  pub to_send : length v.to_send ≡ job.shape.pages
+  pub disks : length v.disks ≡ length job.copy.disks
+  pub dirty : length v.dirty ≡ job.copy.pages
+  pub to_send : length v.to_send ≡ job.copy.pages
   pub issued : length v.outbox.issued ≡ unit_count job
   pub first : length v.outbox.first ≡ unit_count job
   pub applied : length v.hold.applied ≡ unit_count job
@@ -163,14 +163,14 @@ pub record ListsHaveLengths (job : Job) (v : View) : Type 0 where
 pub record IsViewOf (job : Job) (v : View) : Type 0 where
   pub versions : EachVersionOnce (outstanding v) v.outbox.issued v.hold.applied
   pub times : TimesRise (outstanding v) v.hold.applied v.hold.recorded v.mark
-  pub tips : TipCovers (wrote job v.history) v.mark (outstanding v) v.outbox.issued v.hold.applied v.hold.recorded (is_settled job.shape v.disks v.dirty v.to_send)
-  pub unsent : UnsentHaveNone v.outbox.issued (is_unsent_block job.shape v.disks)
-  pub mirrors : EachWriteOnce (wrote job v.history) (writes job v.history) v.mark (outstanding v) v.outbox.issued v.hold.applied v.hold.recorded v.outbox.first (is_behind_block job.shape v.disks)
+  pub tips : TipCovers (wrote job v.history) v.mark (outstanding v) v.outbox.issued v.hold.applied v.hold.recorded (is_settled job.copy v.disks v.dirty v.to_send)
+  pub unsent : UnsentHaveNone v.outbox.issued (is_unsent_block job.copy v.disks)
+  pub mirrors : EachWriteOnce (wrote job v.history) (writes job v.history) v.mark (outstanding v) v.outbox.issued v.hold.applied v.hold.recorded v.outbox.first (is_behind_block job.copy v.disks)
   pub outbox : OutboxRises v.outbox.messages (on_the_way v) v.hold.applied
   pub credit : CreditIsWhole job.config.credit job.config.outbox v.credit (on_the_way v) v.freed v.acks v.outbox.messages
-  pub regions : RegionsFit job.shape job.config.region v.phase v.disks
-  pub rounds : RoundsCount job.shape.pages job.format job.config.rounds (length v.history) v.phase (all_copied job v) v.dirty v.to_send v.rounds v.outbox.issued
-  pub queues : QueuesWait job.shape v.phase v.disks (next_operation job v)
+  pub regions : RegionsFit job.copy job.config.region v.phase v.disks
+  pub rounds : RoundsCount job.copy.pages job.format job.config.rounds (length v.history) v.phase (all_copied job v) v.dirty v.to_send v.rounds v.outbox.issued
+  pub queues : QueuesWait job.copy v.phase v.disks (next_operation job v)
   pub history : HistoryIsLegal job v.history v.mark v.phase v.stun
   pub quiet : StunIsQuiet job.config.credit v.phase (all_copied job v) v.disks v.dirty v.to_send v.rounds v.stun v.mark v.outbox.messages v.credit
   pub cancel : CancelHolds job.config.cancel v.phase (length v.history)

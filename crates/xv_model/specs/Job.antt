@@ -15,19 +15,23 @@ pub use Rattle.xv_base.specs.declared.pattern.UnitOp.{UnitOp}
 pub use Rattle.xv_base.specs.declared.pattern.Init.{Init}
 pub use Rattle.xv_base.specs.declared.limits.Config.{Config}
 pub use Rattle.xv_base.specs.declared.limits.Fault.{Fault}
+pub use Rattle.xv_model.specs.Start.{Start, first_start}
 
+-- `shape` is the machine as its guests see it; `copy` is how an attempt copies the same units
 pub record Job : Type 0 where
   pub shape : Shape
+  pub copy : Shape
   pub format : ℕ
   pub group : ℕ
   pub config : Config
   pub faults : List Fault
   pub init : List Init
   pub traces : List (List UnitOp)
+  pub start : Start
 
 -- how many units, guests and unit operations there are
 abbrev pub unit_count : Job → ℕ
-unit_count job = units job.shape
+unit_count job = units job.copy
 
 abbrev pub guest_count : Job → ℕ
 guest_count job = length job.traces
@@ -62,7 +66,8 @@ is_good_fault streams (AckTake k) = nat_lt 0 k
 -- the limits of every job
 pub record IsGoodJob (job : Job) : Type 0 where
   pub machine : IsGood job.shape
-  pub some_blocks : (d : ℕ) → d < length job.shape.disks → 1 ≤ blocks job.shape.disks d
+  pub same_units : units job.shape ≡ unit_count job
+  pub some_blocks : (d : ℕ) → d < length job.copy.disks → 1 ≤ blocks job.copy.disks d
   pub formats : ((job.format ≡ SINGLE_FORMAT) × (job.group ≡ 1)) ⊎ ((job.format ≡ GROUP_FORMAT) × (1 ≤ job.group) × (job.group ≤ MOST_GROUP))
   pub streams : (1 ≤ job.config.streams) × (job.config.streams ≤ MOST_STREAMS)
   pub credit : (1 ≤ job.config.credit) × (job.config.credit ≤ MOST_CREDIT)
@@ -78,3 +83,8 @@ pub record IsGoodJob (job : Job) : Type 0 where
   pub init_rises : (i j : ℕ) → i < j → j < length job.init → (get_or job.init i no_init).unit.0 < (get_or job.init j no_init).unit.0
   pub fault_lines : length job.faults ≤ MOST_FAULTS
   pub fault_numbers : list_all (is_good_fault job.config.streams) job.faults ≡ true
+
+-- what a first attempt is: it copies the machine as it is, and begins with nothing done
+pub record IsFirst (job : Job) : Type 0 where
+  pub copy_is : job.copy ≡ job.shape
+  pub start_is : job.start ≡ first_start

@@ -1,3 +1,5 @@
+pub mod Call
+pub mod Start
 pub mod Job
 pub mod Guest
 pub mod View

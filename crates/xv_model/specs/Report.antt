@@ -30,7 +30,7 @@ totals job v n = record {
   copied = sum_by (λ d. d.cursor) v.disks;
   rounds = v.rounds;
   messages = sum v.outbox.issued;
-  mirrors = sum (drop job.shape.pages v.outbox.issued) - count_by (λ k. nat_lt 0 k) (drop job.shape.pages v.outbox.issued);
+  mirrors = sum (drop job.copy.pages v.outbox.issued) - count_by (λ k. nat_lt 0 k) (drop job.copy.pages v.outbox.issued);
   applied = sum v.hold.applied;
   credit = v.credit;
 }

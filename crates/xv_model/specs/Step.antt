@@ -11,19 +11,7 @@ use Rattle.xv_base.specs.declared.answer.Cause.{Cause}
 use Rattle.xv_base.specs.declared.answer.Cause.TheVariants.{SourceRead as ReadBroke, DestWrite as WriteBroke, Flush as FlushBroke, Put as PutBroke, Take as TakeBroke, AckPut as AckPutBroke, AckTake as AckTakeBroke}
 use Rattle.xv_base.specs.declared.limits.Fault.TheVariants.{SourceRead as FailRead, SourceWrite as FailWrite, DestRead as FailDestRead, DestWrite as FailDestWrite, Flush as FailFlush, Put as FailPut, Take as FailTake, AckPut as FailAckPut, AckTake as FailAckTake}
 pub use Rattle.xv_base.specs.declared.answer.Entry.{Entry}
-
--- the kinds of calls on the outside that are numbered
-pub data Call : Type 0 where
-  NoCall : Call
-  SourceRead : Call
-  SourceWrite : Call
-  DestRead : Call
-  DestWrite : Call
-  DestFlush : Call
-  Put : ℕ → Call
-  Take : ℕ → Call
-  AckPut : Call
-  AckTake : Call
+pub use Rattle.xv_model.specs.Call.{Call, NoCall, SourceRead, SourceWrite, DestRead, DestWrite, DestFlush, Put, Take, AckPut, AckTake, same_call, is_call}
 
 -- a guest's call: on the destination once it is switched, else on the source; none where the write is queued
 abbrev pub guest_call : Bool → Bool → Bool → Call
@@ -48,22 +36,6 @@ call job v Credit = AckTake
 call job v Stun = NoCall
 call job v Switch = DestFlush
 call job v Cancel = NoCall
-
-abbrev pub same_call : Call → Call → Bool
-same_call NoCall NoCall = true
-same_call SourceRead SourceRead = true
-same_call SourceWrite SourceWrite = true
-same_call DestRead DestRead = true
-same_call DestWrite DestWrite = true
-same_call DestFlush DestFlush = true
-same_call (Put s) (Put t) = s == t
-same_call (Take s) (Take t) = s == t
-same_call AckPut AckPut = true
-same_call AckTake AckTake = true
-same_call c d = false
-
-abbrev pub is_call : Call → Bool
-is_call c = not (same_call c NoCall)
 
 -- Whether an event's failing flag counts: it does where the event makes a call.
 abbrev pub breaks : Job → View → Event → Bool → Bool

@@ -23,7 +23,7 @@ pub record Story : Type 0 where
 abbrev pub first_story : Job → Story
 first_story job = record {
   history = [];
-  queues = map (λ _. []) job.shape.disks;
+  queues = map (λ _. []) job.copy.disks;
   written = replicate (unit_count job) false;
   stun = None;
   switched = false;
@@ -41,7 +41,7 @@ ends s guest outcome = record s { history = s.history ++ record { guest = record
 
 -- a guest's next operation waits for its disk, behind those that wait there
 abbrev pub next_disk : Job → Story → ℕ → ℕ
-next_disk job s guest = disk_of job.shape (operation job guest (ended s.history guest)).unit.0
+next_disk job s guest = disk_of job.copy (operation job guest (ended s.history guest)).unit.0
 
 abbrev pub joins : Story → ℕ → ℕ → Story
 joins s guest d = record s { queues = set s.queues d (queue s d ++ guest ∷ []) }

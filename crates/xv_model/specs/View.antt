@@ -56,9 +56,9 @@ first_view job = record {
   stun = None;
   mark = 0;
   phase = Running;
-  disks = map (λ _. no_disk) job.shape.disks;
-  dirty = replicate job.shape.pages true;
-  to_send = replicate job.shape.pages false;
+  disks = map (λ _. no_disk) job.copy.disks;
+  dirty = replicate job.copy.pages true;
+  to_send = replicate job.copy.pages false;
   rounds = 0;
   outbox = record { messages = []; issued = replicate (unit_count job) 0; first = replicate (unit_count job) 0 };
   streams = replicate job.config.streams [];
@@ -143,9 +143,9 @@ page_side v page = if member v.dirty page then Dirty else (if member v.to_send p
 
 abbrev pub side : Job → View → ℕ → Side
 side job v unit =
-    if is_page job.shape unit
+    if is_page job.copy unit
     then page_side v unit
-    else block_side (disk v (disk_of job.shape unit)) (block_of job.shape unit)
+    else block_side (disk v (disk_of job.copy unit)) (block_of job.copy unit)
 
 -- whether a disk has this many blocks behind its cursor and no region
 abbrev pub is_copied : ℕ → Disk → Bool
@@ -158,7 +158,7 @@ all_copied_by (n ∷ ns) [] = false
 all_copied_by (n ∷ ns) (d ∷ ds) = is_copied n d && all_copied_by ns ds
 
 abbrev pub all_copied : Job → View → Bool
-all_copied job v = all_copied_by (map (λ s. s.blocks) job.shape.disks) v.disks
+all_copied job v = all_copied_by (map (λ s. s.blocks) job.copy.disks) v.disks
 
 abbrev pub queues_empty : List Disk → Bool
 queues_empty [] = true

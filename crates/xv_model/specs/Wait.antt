@@ -20,9 +20,9 @@ pub data Aim : Type 0 where
 abbrev pub aim : Job → View → UnitOp → Aim
 aim job v op =
     if not (is_running v.phase && is_some op.write) then Alone
-    else (if is_page job.shape op.unit.0 then Store
-    else (if is_behind (disk v (disk_of job.shape op.unit.0)) (block_of job.shape op.unit.0) then Mirror
-    else (if is_inside (disk v (disk_of job.shape op.unit.0)) (block_of job.shape op.unit.0) then Join
+    else (if is_page job.copy op.unit.0 then Store
+    else (if is_behind (disk v (disk_of job.copy op.unit.0)) (block_of job.copy op.unit.0) then Mirror
+    else (if is_inside (disk v (disk_of job.copy op.unit.0)) (block_of job.copy op.unit.0) then Join
     else Alone)))
 
 abbrev pub is_store : Aim → Bool
@@ -99,10 +99,10 @@ may_switch job v = is_empty_set v.to_send && is_empty v.outbox.messages && nat_l
 -- whether an event's guest, disk or stream is in the job
 abbrev pub fits : Job → Event → Bool
 fits job (Guest g) = nat_lt g.0 (guest_count job)
-fits job (Begin d) = nat_lt d (length job.shape.disks)
-fits job (Read d) = nat_lt d (length job.shape.disks)
-fits job (Advance d) = nat_lt d (length job.shape.disks)
-fits job (Release d) = nat_lt d (length job.shape.disks)
+fits job (Begin d) = nat_lt d (length job.copy.disks)
+fits job (Read d) = nat_lt d (length job.copy.disks)
+fits job (Advance d) = nat_lt d (length job.copy.disks)
+fits job (Release d) = nat_lt d (length job.copy.disks)
 fits job Round = true
 fits job Page = true
 fits job (Send s) = nat_lt s job.config.streams
@@ -125,7 +125,7 @@ wait job v (Guest g) flag =
     (unless (is_mirror (next_aim job v g.0) && is_full job v) Throttled None))))
 wait job v (Begin d) flag =
     unless (not (is_running v.phase)) NotNow
-    (unless (is_copied (blocks job.shape.disks d) (disk v d) || not ((disk v d).region == 0) || not (is_empty (disk v d).queue)) NotNow None)
+    (unless (is_copied (blocks job.copy.disks d) (disk v d) || not ((disk v d).region == 0) || not (is_empty (disk v d).queue)) NotNow None)
 wait job v (Read d) flag =
     unless (not (is_running v.phase)) NotNow
     (unless (nat_le (disk v d).region (disk v d).got) NotNow None)
@@ -136,7 +136,7 @@ wait job v (Advance d) flag =
 wait job v (Release d) flag =
     unless (is_empty (disk v d).queue) NothingThere
     (unless (cancel_due job v) CancelDue
-    (unless (is_running v.phase && is_inside (disk v d) (block_of job.shape (front (disk v d)).unit.0)) NotNow
+    (unless (is_running v.phase && is_inside (disk v d) (block_of job.copy (front (disk v d)).unit.0)) NotNow
     (unless (is_running v.phase && is_full job v) Throttled None)))
 wait job v Round flag =
     unless (not (is_running v.phase)) NotNow

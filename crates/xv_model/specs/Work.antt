@@ -45,7 +45,7 @@ abbrev pub operations_left : Job → View → ℕ
 operations_left job v = operation_weight job.format * (operation_count job - length v.history) - waiting_count v.disks
 
 abbrev pub disks_left : Job → View → ℕ
-disks_left job v = if is_running v.phase then copies_left (map (λ s. s.blocks) job.shape.disks) v.disks else 0
+disks_left job v = if is_running v.phase then copies_left (map (λ s. s.blocks) job.copy.disks) v.disks else 0
 
 abbrev pub messages_left : Job → View → ℕ
 messages_left job v =

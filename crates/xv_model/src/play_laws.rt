@@ -30,9 +30,9 @@ pub fn unwritten_units_stay_over_runs()
 /// While the guest runs or is stunned, a block behind and a clean page of which nothing is outstanding were written, and
 /// what was recorded with the last version is what the guest has there now; so both sides agree.
 pub fn settled_units_are_up_to_date()
-    ensures written { (job : Job) (v : View) (unit : ℕ) → IsViewOf job v → is_settled job.shape v.disks v.dirty v.to_send unit ≡ true → outstanding v (of_unit unit) ≡ 0 → 0 < number v.hold.applied unit }
-    ensures recorded { (job : Job) (v : View) (unit : ℕ) → IsViewOf job v → is_live v.phase ≡ true → is_settled job.shape v.disks v.dirty v.to_send unit ≡ true → outstanding v (of_unit unit) ≡ 0 → content job v.history unit (number v.hold.recorded unit) ≡ content job v.history unit (length v.history) }
-    ensures sides { (job : Job) (v : View) (c : Contents) (unit : ℕ) → IsViewOf job v → HoldsContents job v c → is_live v.phase ≡ true → is_settled job.shape v.disks v.dirty v.to_send unit ≡ true → outstanding v (of_unit unit) ≡ 0 → unit_content c.dest unit ≡ unit_content c.source unit }
+    ensures written { (job : Job) (v : View) (unit : ℕ) → IsViewOf job v → is_settled job.copy v.disks v.dirty v.to_send unit ≡ true → outstanding v (of_unit unit) ≡ 0 → 0 < number v.hold.applied unit }
+    ensures recorded { (job : Job) (v : View) (unit : ℕ) → IsViewOf job v → is_live v.phase ≡ true → is_settled job.copy v.disks v.dirty v.to_send unit ≡ true → outstanding v (of_unit unit) ≡ 0 → content job v.history unit (number v.hold.recorded unit) ≡ content job v.history unit (length v.history) }
+    ensures sides { (job : Job) (v : View) (c : Contents) (unit : ℕ) → IsViewOf job v → HoldsContents job v c → is_live v.phase ≡ true → is_settled job.copy v.disks v.dirty v.to_send unit ≡ true → outstanding v (of_unit unit) ≡ 0 → unit_content c.dest unit ≡ unit_content c.source unit }
 {}
 
 /// A journal with a failed call among its nine entries, of fourteen events of the job: five of them wait.

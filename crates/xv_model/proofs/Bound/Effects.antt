@@ -74,9 +74,9 @@ guest_lowers job v g op Store good i store mirror join fits =
     lower_running v.phase (operations_left job v) (operations_left job after) (copies_of job v.disks) (copies_of job v.disks) (messages_of job v) (messages_of job after) rounds rounds (store refl).running
     (omega (arith, less, stored_messages job v g op good))
 guest_lowers job v g op Join good i store mirror join fits =
-    let d = disk_of job.shape op.unit.0 in
+    let d = disk_of job.copy op.unit.0 in
     let new = joined (disk v d) g op.unit.0 in
-    let there = inside-disk v.disks d (block_of job.shape op.unit.0) (join refl).inside in
+    let there = inside-disk v.disks d (block_of job.copy op.unit.0) (join refl).inside in
     let one : waiting_count (set v.disks d new) ≡ waiting_count v.disks + 1 = omega (arith, waiting_count-set v.disks d new there, length_push (disk v d).queue (record { guest = record { 0 = g }; unit = record { 0 = op.unit.0 } })) in
     let less = joined_less job (length v.history) (waiting_count v.disks) (waiting_count (set v.disks d new)) good one fits in
     let copies = copies-set job v.disks d new (subst (λ n. d < n) i.lists.disks there) i.lists.disks in
@@ -99,17 +99,17 @@ fault_lowers job v g good fits =
     lower_operations v.phase (operations_left job v) (operations_left job (ended_as v g Faulted)) (copies_of job v.disks) (messages_of job v) (job.config.rounds - v.rounds) (omega (arith, less))
 
 -- the front of a queue
-front-waiting : (job : Job) (v : View) (d : ℕ) → IsViewOf job v → d < length job.shape.disks → 0 < length (disk v d).queue → waiting_count v.disks ≡ waiting_count (set v.disks d (front_gone (disk v d))) + 1
+front-waiting : (job : Job) (v : View) (d : ℕ) → IsViewOf job v → d < length job.copy.disks → 0 < length (disk v d).queue → waiting_count v.disks ≡ waiting_count (set v.disks d (front_gone (disk v d))) + 1
 front-waiting job v d i l some = omega (arith, some, i.lists.disks, waiting_count-set v.disks d (front_gone (disk v d)) (omega (arith, l, i.lists.disks)), length-drop 1 (disk v d).queue)
 
-front-copies : (job : Job) (v : View) (d : ℕ) → IsViewOf job v → d < length job.shape.disks → copies_of job (set v.disks d (front_gone (disk v d))) ≡ copies_of job v.disks
+front-copies : (job : Job) (v : View) (d : ℕ) → IsViewOf job v → d < length job.copy.disks → copies_of job (set v.disks d (front_gone (disk v d))) ≡ copies_of job v.disks
 front-copies job v d i l = omega (arith, copies-set job v.disks d (front_gone (disk v d)) l i.lists.disks)
 
 released_box : (b : Bool) (box : Outbox) (unit at : ℕ) → 5 * length (if b then made box unit at else box).messages ≡ 5 * length box.messages + (if b then 5 else 0)
 released_box true box unit at = omega (arith, length_push box.messages (record { unit = record { 0 = unit }; version = get_or box.issued unit 0 + 1; at = at }))
 released_box false box unit at = omega arith
 
-pub release_lowers : (job : Job) (v : View) (d : ℕ) → IsGoodJob job → IsViewOf job v → d < length job.shape.disks → ReleaseGoes job v d → WaitingFits job (released v d) → Lowers job v (released v d)
+pub release_lowers : (job : Job) (v : View) (d : ℕ) → IsGoodJob job → IsViewOf job v → d < length job.copy.disks → ReleaseGoes job v d → WaitingFits job (released v d) → Lowers job v (released v d)
 release_lowers job v d good i l goes fits =
     let after = released v d in
     let less = released_less job v.history (record { guest = (front (disk v d)).guest; outcome = Done }) (waiting_count v.disks) (waiting_count after.disks) good (front-waiting job v d i l goes.some_queue) fits in
@@ -117,7 +117,7 @@ release_lowers job v d good i l goes fits =
     subst (λ c. work_of v.phase (operations_left job after) c (messages_of job after) (job.config.rounds - v.rounds) + 1 ≤ work_left job v) (sym (front-copies job v d i l))
     (lower_released v.phase (operations_left job v) (operations_left job after) (copies_of job v.disks) (messages_of job v) (messages_of job after) (job.config.rounds - v.rounds) less (omega (arith, box)))
 
-pub release_fault_lowers : (job : Job) (v : View) (d : ℕ) → IsGoodJob job → IsViewOf job v → d < length job.shape.disks → ReleaseGoes job v d → WaitingFits job (fault_effect v (Release d)) → Lowers job v (fault_effect v (Release d))
+pub release_fault_lowers : (job : Job) (v : View) (d : ℕ) → IsGoodJob job → IsViewOf job v → d < length job.copy.disks → ReleaseGoes job v d → WaitingFits job (fault_effect v (Release d)) → Lowers job v (fault_effect v (Release d))
 release_fault_lowers job v d good i l goes fits =
     let after = fault_effect v (Release d) in
     let less = released_less job v.history (record { guest = record { 0 = (front (disk v d)).guest.0 }; outcome = Faulted }) (waiting_count v.disks) (waiting_count after.disks) good (front-waiting job v d i l goes.some_queue) fits in
@@ -134,14 +134,14 @@ read_less count cursor region got l more = rw (ne_eqb region 0 (λ e. omega arit
 advanced_less : (count cursor region got : ℕ) → cursor + region ≤ count → 0 < region → got ≤ region → 8 * (count - (cursor + region)) - (0 + 0) + 5 * region + 1 ≤ 8 * (count - cursor) - ((if region == 0 then 0 else 1) + got)
 advanced_less count cursor region got l some le = rw (ne_eqb region 0 (λ e. omega arith)) (omega arith)
 
-pub begin_lowers : (job : Job) (v : View) (d : ℕ) → IsGoodJob job → IsViewOf job v → d < length job.shape.disks → BeginGoes job v d → Lowers job v (begun job v d)
+pub begin_lowers : (job : Job) (v : View) (d : ℕ) → IsGoodJob job → IsViewOf job v → d < length job.copy.disks → BeginGoes job v d → Lowers job v (begun job v d)
 begin_lowers job v d good i l goes =
     let k = disk v d in
     let new : Disk = record k { region = region_length job v d; got = 0 } in
     let there : d < length v.disks = omega (arith, l, i.lists.disks) in
-    let below : k.cursor < blocks job.shape.disks d = let n = goes.not_copied in omega (arith, i.regions.cursor_fits d there, n) in
+    let below : k.cursor < blocks job.copy.disks d = let n = goes.not_copied in omega (arith, i.regions.cursor_fits d there, n) in
     let some : 0 < region_length job v d = omega (arith, below, good.region.0) in
-    let less = begun_less (blocks job.shape.disks d) k.cursor k.region k.got (region_length job v d) goes.no_region (omega (arith, i.regions.read_fits d, goes.no_region)) below some in
+    let less = begun_less (blocks job.copy.disks d) k.cursor k.region k.got (region_length job v d) goes.no_region (omega (arith, i.regions.read_fits d, goes.no_region)) below some in
     let copies = copies-set job v.disks d new l i.lists.disks in
     let queue = waiting_count-set v.disks d new there in
     let same : waiting_count (set v.disks d new) ≡ waiting_count v.disks = omega (arith, queue) in
@@ -150,12 +150,12 @@ begin_lowers job v d good i l goes =
     lower_running v.phase (operations_left job v) (operations_left job (begun job v d)) (copies_of job v.disks) (copies_of job (set v.disks d new)) (messages_of job v) (messages_of job v) rounds rounds goes.running
     (omega (arith, less, copies, o))
 
-pub read_lowers : (job : Job) (v : View) (d : ℕ) → IsViewOf job v → d < length job.shape.disks → ReadGoes job v d → Lowers job v (block_read v d)
+pub read_lowers : (job : Job) (v : View) (d : ℕ) → IsViewOf job v → d < length job.copy.disks → ReadGoes job v d → Lowers job v (block_read v d)
 read_lowers job v d i l goes =
     let k = disk v d in
     let new : Disk = record k { got = k.got + 1 } in
     let there : d < length v.disks = omega (arith, l, i.lists.disks) in
-    let less = read_less (blocks job.shape.disks d) k.cursor k.region k.got (i.regions.cursor_fits d there) goes.not_read in
+    let less = read_less (blocks job.copy.disks d) k.cursor k.region k.got (i.regions.cursor_fits d there) goes.not_read in
     let copies = copies-set job v.disks d new l i.lists.disks in
     let queue = waiting_count-set v.disks d new there in
     let same : waiting_count (set v.disks d new) ≡ waiting_count v.disks = omega (arith, queue) in
@@ -164,13 +164,13 @@ read_lowers job v d i l goes =
     lower_running v.phase (operations_left job v) (operations_left job (block_read v d)) (copies_of job v.disks) (copies_of job (set v.disks d new)) (messages_of job v) (messages_of job v) rounds rounds goes.running
     (omega (arith, less, copies, o))
 
-pub advance_lowers : (job : Job) (v : View) (d : ℕ) → IsViewOf job v → d < length job.shape.disks → AdvanceGoes job v d → Lowers job v (advanced job v d)
+pub advance_lowers : (job : Job) (v : View) (d : ℕ) → IsViewOf job v → d < length job.copy.disks → AdvanceGoes job v d → Lowers job v (advanced job v d)
 advance_lowers job v d i l goes =
     let k = disk v d in
     let after = advanced job v d in
     let new : Disk = record k { cursor = k.cursor + k.region; region = 0; got = 0 } in
     let there : d < length v.disks = omega (arith, l, i.lists.disks) in
-    let less = advanced_less (blocks job.shape.disks d) k.cursor k.region k.got (i.regions.cursor_fits d there) goes.some_region (i.regions.read_fits d) in
+    let less = advanced_less (blocks job.copy.disks d) k.cursor k.region k.got (i.regions.cursor_fits d there) goes.some_region (i.regions.read_fits d) in
     let copies = copies-set job v.disks d new l i.lists.disks in
     let queue = waiting_count-set v.disks d new there in
     let same : waiting_count (set v.disks d new) ≡ waiting_count v.disks = omega (arith, queue) in

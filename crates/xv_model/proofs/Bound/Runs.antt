@@ -118,10 +118,10 @@ dirty_at_most w d n k known e = elim known.known [
 pub first-within : (job : Job) → IsGoodJob job → work_left job (first_view job) ≤ bound job
 first-within job good =
     let w = weights job good in
-    let pages = job.shape.pages in
+    let pages = job.copy.pages in
     let operations : operations_left job (first_view job) ≤ 8 * operation_count job = operations_at_most (operation_weight job.format) (dirty_weight job.format) (operation_count job) (waiting_count (first_view job).disks) w in
     let dirty = dirty_at_most (operation_weight job.format) (dirty_weight job.format) pages (members (replicate pages true)) w (members-all pages) in
-    omega (arith, operations, dirty, first-copies job.shape.disks, members-none pages, no_streams job.config.streams, good.rounds.1)
+    omega (arith, operations, dirty, first-copies job.copy.disks, members-none pages, no_streams job.config.streams, good.rounds.1)
 
 -- an entry that agrees with an answer has none that waits
 pub agrees-goes : (s t : Turn) → same_turn s t ≡ true → is_wait t ≡ false

@@ -14,7 +14,7 @@ work_of p operations copies messages rounds =
     operations + (if is_running p then copies else 0) + (if is_live p then messages else 0) + (if is_running p then rounds + 2 else (if is_stunned p then 1 else 0))
 
 abbrev pub copies_of : Job → List Disk → ℕ
-copies_of job ds = copies_left (map (λ s. s.blocks) job.shape.disks) ds
+copies_of job ds = copies_left (map (λ s. s.blocks) job.copy.disks) ds
 
 abbrev pub messages_of : Job → View → ℕ
 messages_of job v =
@@ -140,6 +140,6 @@ copies_left-set (s ∷ ss) [] d new l e = absurd (omega arith)
 copies_left-set (s ∷ ss) (k ∷ ds) zero new l e = omega arith
 copies_left-set (s ∷ ss) (k ∷ ds) (suc d) new l e = omega (arith, copies_left-set ss ds d new (omega arith) (omega arith))
 
-pub copies-set : (job : Job) (ds : List Disk) (d : ℕ) (new : Disk) → d < length job.shape.disks → length ds ≡ length job.shape.disks →
-    copies_of job (set ds d new) + copy_left (blocks job.shape.disks d) (get_or ds d no_disk) ≡ copies_of job ds + copy_left (blocks job.shape.disks d) new
-copies-set job ds d new l e = copies_left-set job.shape.disks ds d new l e
+pub copies-set : (job : Job) (ds : List Disk) (d : ℕ) (new : Disk) → d < length job.copy.disks → length ds ≡ length job.copy.disks →
+    copies_of job (set ds d new) + copy_left (blocks job.copy.disks d) (get_or ds d no_disk) ≡ copies_of job ds + copy_left (blocks job.copy.disks d) new
+copies-set job ds d new l e = copies_left-set job.copy.disks ds d new l e

@@ -24,6 +24,7 @@ two_guests-legal (suc (suc guest)) k l = absurd (omega arith)
 pub two_guests-good : IsGoodJob two_guests_queue_job
 two_guests-good = record {
   machine = record { no_fault = two_guests-layout; few_disks = omega arith };
+  same_units = refl;
   some_blocks = two_guests-blocks;
   formats = inl (refl, refl);
   streams = (omega arith, omega arith);
@@ -59,6 +60,7 @@ rounds_past-legal (suc guest) k l = absurd (omega arith)
 pub rounds_past-good : IsGoodJob rounds_past_the_limit_job
 rounds_past-good = record {
   machine = record { no_fault = rounds_past-layout; few_disks = omega arith };
+  same_units = refl;
   some_blocks = rounds_past-blocks;
   formats = inr (refl, omega arith, omega arith);
   streams = (omega arith, omega arith);

@@ -37,12 +37,12 @@ contents-begun job v c d holds =
       reads_are = holds.reads_are;
     }
 
-pub contents-block_read : (job : Job) (v : View) (c : Contents) (d : ℕ) → IsGoodJob job → IsViewOf job v → d < length job.shape.disks → ReadGoes job v d → HoldsContents job v c → HoldsContents job (block_read v d) (read_moves job v d c)
+pub contents-block_read : (job : Job) (v : View) (c : Contents) (d : ℕ) → IsGoodJob job → IsViewOf job v → d < length job.copy.disks → ReadGoes job v d → HoldsContents job v c → HoldsContents job (block_read v d) (read_moves job v d c)
 contents-block_read job v c d good inv lt goes holds =
     let in_disks : d < length v.disks = let l = inv.lists.disks in omega arith in
     let region = (regions_of job v c holds).region d in_disks in
-    let fits : (disk v d).cursor + (disk v d).got < blocks job.shape.disks d = let a = inv.regions.cursor_fits d in_disks in let b = goes.not_read in omega arith in
-    let block = is_block_after job.shape d (disk v d).cursor (disk v d).got lt fits in
+    let fits : (disk v d).cursor + (disk v d).got < blocks job.copy.disks d = let a = inv.regions.cursor_fits d in_disks in let b = goes.not_read in omega arith in
+    let block = is_block_after job.copy d (disk v d).cursor (disk v d).got lt fits in
     let read = holds.source_is (cursor_unit job v d + (disk v d).got) block.in_range (live_not_switched v.phase (running_is_live v.phase goes.running)) in
     let are = regions-set job v.history v.disks c.regions d _ _ (regions_of job v c holds) (region-more job v.history d (disk v d) (record (disk v d) { got = (disk v d).got + 1 }) (region_content c d) _ region refl refl read) in
     record {

@@ -49,9 +49,9 @@ stun-later job v t unit inv on =
 -- a block that was read is in its disk's region, and the guest runs
 pub record IsRead (job : Job) (v : View) (unit : ℕ) : Type 0 where
   pub running : is_running v.phase ≡ true
-  pub no_page : is_page job.shape unit ≡ false
-  pub not_behind : is_behind (disk v (disk_of job.shape unit)) (block_of job.shape unit) ≡ false
-  pub inside : is_inside (disk v (disk_of job.shape unit)) (block_of job.shape unit) ≡ true
+  pub no_page : is_page job.copy unit ≡ false
+  pub not_behind : is_behind (disk v (disk_of job.copy unit)) (block_of job.copy unit) ≡ false
+  pub inside : is_inside (disk v (disk_of job.copy unit)) (block_of job.copy unit) ≡ true
 
 pub is_read : (job : Job) (v : View) (d k : ℕ) → IsViewOf job v → d < length v.disks → k < (disk v d).got → IsRead job v (cursor_unit job v d + k)
 is_read job v d k inv lt l =
@@ -61,7 +61,7 @@ is_read job v d k inv lt l =
       | inl e ↦ e
       | inr e ↦ let none = inv.regions.only_running d e in absurd (omega arith)
     ] in
-    let is = is_block_after job.shape d (disk v d).cursor k (let n = inv.lists.disks in omega arith) (omega arith) in
+    let is = is_block_after job.copy d (disk v d).cursor k (let n = inv.lists.disks in omega arith) (omega arith) in
     record {
       running = running;
       no_page = is.no_page;

@@ -4,12 +4,13 @@ use Rattle.std.proofs.Common.{arith, refl, ap, sym, ◌∙◌, subst}
 use Rattle.std.proofs.lemmas.Bool.{eqb-true, and_parts, false_from_ne_true, or_right}
 use Rattle.std.proofs.lemmas.List.{map_push, length_push}
 use Rattle.xv_model.specs.Job.{Job, UnitOp, IsGoodJob, unit_count, is_page, disk_of, block_of}
-use Rattle.xv_model.specs.Guest.{Ended, ended, content, is_done, writes_to}
+use Rattle.xv_model.specs.Guest.{Ended, content, is_done, writes_to}
 use Rattle.xv_model.specs.View.{View, Outbox, disk, front, is_running, is_live, is_stunned, is_switched, is_behind, is_inside}
 use Rattle.xv_model.specs.Wait.{Aim, Alone, Store, Join, Mirror, aim, is_join, is_mirror, next_operation, next_aim}
 use Rattle.xv_model.specs.Effect.{cursor_unit, joined, front_gone, made, guest_by, guest_done, released, ended_as, with_disk}
 use Rattle.xv_model.specs.Invariant.{IsViewOf}
 use Rattle.xv_model.specs.Contents.{Contents, HoldsContents, unit_content, after_operation, read_of, message_content, guest_moves, release_moves, front_operation}
+use Rattle.xv_model.proofs.Facts.{mirror_unit}
 use Rattle.xv_model.proofs.GoesOn.{GuestGoes, ReleaseGoes, MeansStore, MeansMirror, MeansJoin, MeansAlone, aim-store, aim-mirror, aim-join, aim-alone, queues_empty-queue, running_is_live, live_not_switched}
 use Rattle.xv_model.proofs.Contents.Histories.{operation_of}
 use Rattle.xv_model.proofs.Contents.Entries.{device-after, read_of-write}
@@ -68,19 +69,19 @@ unit_of_write op unit e = let parts = and_parts (is_some op.write) (op.unit.0 ==
 -- an operation that is not queued writes to no block that was read
 store_untouched : (job : Job) (v : View) (op : UnitOp) (unit : ℕ) → MeansStore job v op → IsRead job v unit → writes_to op unit ≡ false
 store_untouched job v op unit means read = false_from_ne_true (writes_to op unit) (λ e.
-    (let page : is_page job.shape unit ≡ true = subst (λ u. is_page job.shape u ≡ true) (unit_of_write op unit e).1 means.page in
+    (let page : is_page job.copy unit ≡ true = subst (λ u. is_page job.copy u ≡ true) (unit_of_write op unit e).1 means.page in
     let block = read.no_page in
     cc))
 
 mirror_untouched : (job : Job) (v : View) (op : UnitOp) (unit : ℕ) → MeansMirror job v op → IsRead job v unit → writes_to op unit ≡ false
 mirror_untouched job v op unit means read = false_from_ne_true (writes_to op unit) (λ e.
-    (let behind : is_behind (disk v (disk_of job.shape unit)) (block_of job.shape unit) ≡ true = subst (λ u. is_behind (disk v (disk_of job.shape u)) (block_of job.shape u) ≡ true) (unit_of_write op unit e).1 means.behind in
+    (let behind : is_behind (disk v (disk_of job.copy unit)) (block_of job.copy unit) ≡ true = subst (λ u. is_behind (disk v (disk_of job.copy u)) (block_of job.copy u) ≡ true) (unit_of_write op unit e).1 means.behind in
     let ahead = read.not_behind in
     cc))
 
 alone_untouched : (job : Job) (v : View) (op : UnitOp) (unit : ℕ) → MeansAlone job v op → IsRead job v unit → writes_to op unit ≡ false
 alone_untouched job v op unit means read = false_from_ne_true (writes_to op unit) (λ e.
-    (let outside : is_inside (disk v (disk_of job.shape unit)) (block_of job.shape unit) ≡ false = subst (λ u. is_inside (disk v (disk_of job.shape u)) (block_of job.shape u) ≡ false) (unit_of_write op unit e).1 (means.not_inside read.running (unit_of_write op unit e).0) in
+    (let outside : is_inside (disk v (disk_of job.copy unit)) (block_of job.copy unit) ≡ false = subst (λ u. is_inside (disk v (disk_of job.copy u)) (block_of job.copy u) ≡ false) (unit_of_write op unit e).1 (means.not_inside read.running (unit_of_write op unit e).0) in
     let inside = read.inside in
     cc))
 
@@ -95,7 +96,7 @@ mirror_content job v c e op unit inv holds off done is lt in_range =
     ∙ sym (map_push f v.outbox.messages _)
 
 contents-joined : (job : Job) (v : View) (c : Contents) (g : ℕ) (op : UnitOp) (dirty : List Bool) (mark : ℕ) → IsViewOf job v → MeansJoin job v op → HoldsContents job v c →
-    HoldsContents job (record v { mark = mark; dirty = dirty; disks = set v.disks (disk_of job.shape op.unit.0) (joined (disk v (disk_of job.shape op.unit.0)) g op.unit.0) })
+    HoldsContents job (record v { mark = mark; dirty = dirty; disks = set v.disks (disk_of job.copy op.unit.0) (joined (disk v (disk_of job.copy op.unit.0)) g op.unit.0) })
     (record c {
       source = if is_switched v.phase || true then c.source else after_operation op c.source;
       dest = if is_switched v.phase then after_operation op c.dest else c.dest;
@@ -105,7 +106,7 @@ contents-joined job v c g op dirty mark inv means holds =
     let off = live_not_switched v.phase (running_is_live v.phase means.running) in
     let source : (if is_switched v.phase || true then c.source else after_operation op c.source) ≡ c.source = ap (λ b. if b || true then c.source else after_operation op c.source) off in
     let dest : (if is_switched v.phase then after_operation op c.dest else c.dest) ≡ c.dest = ap (λ b. if b then after_operation op c.dest else c.dest) off in
-    let are = regions-kept job v.history v.disks c.regions (disk_of job.shape op.unit.0) (joined (disk v (disk_of job.shape op.unit.0)) g op.unit.0) (regions_of job v c holds) refl refl in
+    let are = regions-kept job v.history v.disks c.regions (disk_of job.copy op.unit.0) (joined (disk v (disk_of job.copy op.unit.0)) g op.unit.0) (regions_of job v c holds) refl refl in
     record {
       source_length = ap length source ∙ holds.source_length;
       dest_length = ap length dest ∙ holds.dest_length;
@@ -140,7 +141,7 @@ guest_aimed job v c g Mirror inv holds lt is =
 guest_aimed job v c g Join inv holds lt is = contents-joined job v c g (next_operation job v g) v.dirty v.mark inv (aim-join job v (next_operation job v g) is) holds
 
 pub contents-guest_done : (job : Job) (v : View) (c : Contents) (g : ℕ) → IsGoodJob job → IsViewOf job v → GuestGoes job v g → HoldsContents job v c → HoldsContents job (guest_done job v g) (guest_moves job v g c)
-contents-guest_done job v c g good inv goes holds = guest_aimed job v c g (next_aim job v g) inv holds (good.legal g (ended v.history g) goes.more).unit_is refl
+contents-guest_done job v c g good inv goes holds = guest_aimed job v c g (next_aim job v g) inv holds (mirror_unit job v g good goes) refl
 
 -- a guest's operation that failed
 pub contents-guest_failed : (job : Job) (v : View) (c : Contents) (g : ℕ) → IsViewOf job v → HoldsContents job v c → HoldsContents job (ended_as v g Faulted) c
@@ -152,7 +153,7 @@ record IsFront (job : Job) (v : View) (d : ℕ) : Type 0 where
   writes : is_some (front_operation job v d).write ≡ true
   unit : (front_operation job v d).unit.0 ≡ (front (disk v d)).unit.0
   in_range : (front (disk v d)).unit.0 < unit_count job
-  of_disk : disk_of job.shape (front (disk v d)).unit.0 ≡ d
+  of_disk : disk_of job.copy (front (disk v d)).unit.0 ≡ d
   not_switched : is_switched v.phase ≡ false
 
 is_front : (job : Job) (v : View) (d : ℕ) → IsViewOf job v → ReleaseGoes job v d → IsFront job v d
@@ -173,8 +174,8 @@ is_front job v d inv goes =
 front_untouched : (job : Job) (v : View) (d unit : ℕ) → ReleaseGoes job v d → IsFront job v d → IsRead job v unit → writes_to (front_operation job v d) unit ≡ false
 front_untouched job v d unit goes is read = false_from_ne_true (writes_to (front_operation job v d) unit) (λ e.
     (let same : unit ≡ (front (disk v d)).unit.0 = sym (unit_of_write (front_operation job v d) unit e).1 ∙ is.unit in
-    let inside : is_inside (disk v (disk_of job.shape (front (disk v d)).unit.0)) (block_of job.shape (front (disk v d)).unit.0) ≡ true = subst (λ u. is_inside (disk v (disk_of job.shape u)) (block_of job.shape u) ≡ true) same read.inside in
-    let here : is_inside (disk v d) (block_of job.shape (front (disk v d)).unit.0) ≡ true = subst (λ i. is_inside (disk v i) (block_of job.shape (front (disk v d)).unit.0) ≡ true) is.of_disk inside in
+    let inside : is_inside (disk v (disk_of job.copy (front (disk v d)).unit.0)) (block_of job.copy (front (disk v d)).unit.0) ≡ true = subst (λ u. is_inside (disk v (disk_of job.copy u)) (block_of job.copy u) ≡ true) same read.inside in
+    let here : is_inside (disk v d) (block_of job.copy (front (disk v d)).unit.0) ≡ true = subst (λ i. is_inside (disk v i) (block_of job.copy (front (disk v d)).unit.0) ≡ true) is.of_disk inside in
     let outside = goes.not_inside read.running in
     cc))
 

@@ -10,7 +10,7 @@ use Rattle.xv_model.specs.Effect.{without_region}
 
 -- the content that is to stand at a place of a region
 abbrev pub block_content : Job → List Ended → ℕ → ℕ → ℕ → List ℕ
-block_content job h d cursor k = content job h (unit_of_block job.shape d cursor + k) (length h)
+block_content job h d cursor k = content job h (unit_of_block job.copy d cursor + k) (length h)
 
 -- a region has the blocks read, and each as the guest has it
 pub record IsRegion (job : Job) (h : List Ended) (d : ℕ) (disk : Disk) (region : List (List ℕ)) : Type 0 where

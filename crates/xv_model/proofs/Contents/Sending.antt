@@ -26,7 +26,7 @@ run_contents job h box unit at read (suc n) le each =
     ∙ append_assoc (map f box.messages) (take n read) (content job h (unit + n) at ∷ [])
     ∙ ap (λ x. map f box.messages ++ x) (ap (λ x. take n read ++ x ∷ []) (sym last) ∙ sym more)
 
-pub contents-advanced : (job : Job) (v : View) (c : Contents) (d : ℕ) → IsViewOf job v → d < length job.shape.disks → AdvanceGoes job v d → HoldsContents job v c → HoldsContents job (advanced job v d) (advance_moves d c)
+pub contents-advanced : (job : Job) (v : View) (c : Contents) (d : ℕ) → IsViewOf job v → d < length job.copy.disks → AdvanceGoes job v d → HoldsContents job v c → HoldsContents job (advanced job v d) (advance_moves d c)
 contents-advanced job v c d inv lt goes holds =
     let in_disks : d < length v.disks = let l = inv.lists.disks in omega arith in
     let region = (regions_of job v c holds).region d in_disks in

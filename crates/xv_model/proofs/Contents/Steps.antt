@@ -5,7 +5,7 @@ use Rattle.std.proofs.lemmas.Bool.{ltb-true}
 use Rattle.std.proofs.lemmas.List.{length-map, get_or-map, get_or-replicate}
 use Rattle.std.proofs.lemmas.List.FromFn.{length-map-range_with_len, get_or-map-range_with_len}
 use Rattle.xv_base.specs.declared.unit.DiskShape.{DiskShape}
-use Rattle.xv_model.specs.Job.{Job, IsGoodJob, unit_count}
+use Rattle.xv_model.specs.Job.{Job, IsGoodJob, units, unit_count}
 use Rattle.xv_model.specs.Guest.{initial}
 use Rattle.xv_model.specs.View.{View, Disk, no_disk, number, first_view}
 use Rattle.xv_model.specs.Wait.{Event, Why, wait, fits}
@@ -27,22 +27,22 @@ map-replicate_none : {X Y : Type 0} (f : List X → List Y) (n : ℕ) → f [] �
 map-replicate_none f zero none = refl
 map-replicate_none f (suc n) none = rw (none, ← map-replicate_none f n none)
 
-first_regions : (job : Job) → AreRegions job [] (map (λ _. no_disk) job.shape.disks) (map (λ _. []) job.shape.disks)
+first_regions : (job : Job) → AreRegions job [] (map (λ _. no_disk) job.copy.disks) (map (λ _. []) job.copy.disks)
 first_regions job = record {
-  one_each = length-map job.shape.disks (λ _. []) ∙ sym (length-map job.shape.disks (λ _. no_disk));
+  one_each = length-map job.copy.disks (λ _. []) ∙ sym (length-map job.copy.disks (λ _. no_disk));
   region = λ d lt.
-      let there : d < length job.shape.disks = let l = length-map job.shape.disks (λ (_ : DiskShape). no_disk) in omega arith in
-      rw (get_or-map {Y = Disk} (λ (s : DiskShape). no_disk) job.shape.disks d (record { blocks = 0; block_size = 0 }) no_disk there, get_or-map {Y = List (List ℕ)} (λ (s : DiskShape). []) job.shape.disks d (record { blocks = 0; block_size = 0 }) [] there)
+      let there : d < length job.copy.disks = let l = length-map job.copy.disks (λ (_ : DiskShape). no_disk) in omega arith in
+      rw (get_or-map {Y = Disk} (λ (s : DiskShape). no_disk) job.copy.disks d (record { blocks = 0; block_size = 0 }) no_disk there, get_or-map {Y = List (List ℕ)} (λ (s : DiskShape). []) job.copy.disks d (record { blocks = 0; block_size = 0 }) [] there)
       (region-none job [] d no_disk refl);
 }
 
-pub contents-first : (job : Job) (dest : List (List ℕ)) → length dest ≡ unit_count job → HoldsContents job (first_view job) (first_contents job dest)
-contents-first job dest same =
+pub contents-first : (job : Job) (dest : List (List ℕ)) → IsGoodJob job → length dest ≡ unit_count job → HoldsContents job (first_view job) (first_contents job dest)
+contents-first job dest good same =
     let are = first_regions job in
     record {
-      source_length = length-map-range_with_len (initial job) 0 (unit_count job);
+      source_length = length-map-range_with_len (initial job) 0 (units job.shape) ∙ good.same_units;
       dest_length = same;
-      source_is = λ unit lt off. get_or-map-range_with_len (initial job) 0 (unit_count job) unit unit [] lt (omega arith);
+      source_is = λ unit lt off. get_or-map-range_with_len (initial job) 0 (units job.shape) unit unit [] (omega (arith, lt, good.same_units)) (omega arith);
       outbox_is = refl;
       streams_are = map-replicate_none (map (map (message_content job []))) job.config.streams refl;
       held_is = refl;
@@ -62,8 +62,8 @@ contents-first job dest same =
 went_on : (job : Job) (v : View) (c : Contents) (e : Event) (flag : Bool) → IsGoodJob job → fits job e ≡ true → IsViewOf job v → HoldsContents job v c → wait job v e flag ≡ None → HoldsContents job (effect job v e) (moves job v e c)
 went_on job v c (Guest g) flag good fit inv holds goes = contents-guest_done job v c g.0 good inv (guest_goes job v g.0 flag goes) holds
 went_on job v c (Begin d) flag good fit inv holds goes = contents-begun job v c d holds
-went_on job v c (Read d) flag good fit inv holds goes = contents-block_read job v c d good inv (ltb-true d (length job.shape.disks) fit) (read_goes job v d flag goes) holds
-went_on job v c (Advance d) flag good fit inv holds goes = contents-advanced job v c d inv (ltb-true d (length job.shape.disks) fit) (advance_goes job v d flag goes) holds
+went_on job v c (Read d) flag good fit inv holds goes = contents-block_read job v c d good inv (ltb-true d (length job.copy.disks) fit) (read_goes job v d flag goes) holds
+went_on job v c (Advance d) flag good fit inv holds goes = contents-advanced job v c d inv (ltb-true d (length job.copy.disks) fit) (advance_goes job v d flag goes) holds
 went_on job v c (Release d) flag good fit inv holds goes = contents-released job v c d inv (release_goes job v d flag goes) holds
 went_on job v c Round flag good fit inv holds goes = contents-round_begun job v c holds
 went_on job v c Page flag good fit inv holds goes = contents-page_sent_off job v c inv (page_goes job v flag goes) holds

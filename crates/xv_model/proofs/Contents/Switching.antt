@@ -61,15 +61,15 @@ copied-cursor (s ∷ shapes) [] d e lt = absurd (cc)
 copied-cursor (s ∷ shapes) (x ∷ ds) zero e lt = eqb-true x.cursor s.blocks (and_parts (x.cursor == s.blocks) (x.region == 0) (and_parts ((x.cursor == s.blocks) && (x.region == 0)) (all_copied_by (map (λ s. s.blocks) shapes) ds) e).0).0
 copied-cursor (s ∷ shapes) (x ∷ ds) (suc d) e lt = copied-cursor shapes ds d (and_parts ((x.cursor == s.blocks) && (x.region == 0)) (all_copied_by (map (λ s. s.blocks) shapes) ds) e).1 (omega arith)
 
-settled_all : (job : Job) (v : View) (unit : ℕ) → IsViewOf job v → SwitchGoes job v → unit < unit_count job → is_settled job.shape v.disks v.dirty v.to_send unit ≡ true
+settled_all : (job : Job) (v : View) (unit : ℕ) → IsViewOf job v → SwitchGoes job v → unit < unit_count job → is_settled job.copy v.disks v.dirty v.to_send unit ≡ true
 settled_all job v unit inv goes lt =
     let quiet : (is_stunned v.phase || is_switched v.phase) ≡ true = or_left (is_stunned v.phase) (is_switched v.phase) goes.stunned in
-    elim (cases_Bool (is_page job.shape unit)) [
-      | inl page ↦ settled_page job.shape v.disks v.dirty v.to_send unit lt page (none-member v.dirty unit (inv.quiet.none_dirty quiet)) (none-member v.to_send unit goes.none_to_send)
+    elim (cases_Bool (is_page job.copy unit)) [
+      | inl page ↦ settled_page job.copy v.disks v.dirty v.to_send unit lt page (none-member v.dirty unit (inv.quiet.none_dirty quiet)) (none-member v.to_send unit goes.none_to_send)
       | inr block ↦
-          let cursor = copied-cursor job.shape.disks v.disks (disk_of job.shape unit) (inv.quiet.all_copied quiet) (disk_in job.shape unit block lt) in
-          let below = block_in job.shape unit block lt in
-          settled_block job.shape v.disks v.dirty v.to_send unit (behind_block_from job.shape v.disks unit (record { in_range = lt; no_page = block; behind = omega arith }))
+          let cursor = copied-cursor job.copy.disks v.disks (disk_of job.copy unit) (inv.quiet.all_copied quiet) (disk_in job.copy unit block lt) in
+          let below = block_in job.copy unit block lt in
+          settled_block job.copy v.disks v.dirty v.to_send unit (behind_block_from job.copy v.disks unit (record { in_range = lt; no_page = block; behind = omega arith }))
     ]
 
 -- entries that write nothing to a unit leave its content as it was

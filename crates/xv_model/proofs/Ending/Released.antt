@@ -31,7 +31,7 @@ not_and false b h = refl
 pub release-goes : (job : Job) (v : View) (d : ℕ) (flag : Bool) → is_live v.phase ≡ false → is_empty (disk v d).queue ≡ false → wait job v (Release d) flag ≡ None
 release-goes job v d flag dead some =
     let still = dead_not_running v.phase dead in
-    release_passes (is_empty (disk v d).queue) (reaches job.config.cancel (length v.history) && is_live v.phase) (is_running v.phase && is_inside (disk v d) (block_of job.shape (front (disk v d)).unit.0)) (is_running v.phase && is_full job v)
+    release_passes (is_empty (disk v d).queue) (reaches job.config.cancel (length v.history) && is_live v.phase) (is_running v.phase && is_inside (disk v d) (block_of job.copy (front (disk v d)).unit.0)) (is_running v.phase && is_full job v)
     some (and_right (reaches job.config.cancel (length v.history)) (is_live v.phase) dead) (not_and (is_running v.phase) _ still) (not_and (is_running v.phase) _ still)
 
 abbrev pub outcome_of : Bool → Outcome

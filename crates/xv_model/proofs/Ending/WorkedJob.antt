@@ -26,6 +26,7 @@ queued-legal (suc (suc (suc guest))) k l = absurd (omega arith)
 pub queued-good : IsGoodJob cancelled_with_a_queue_job
 queued-good = record {
   machine = record { no_fault = queued-layout; few_disks = omega arith };
+  same_units = refl;
   some_blocks = queued-blocks;
   formats = inl (refl, refl);
   streams = (omega arith, omega arith);

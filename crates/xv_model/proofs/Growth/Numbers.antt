@@ -78,7 +78,7 @@ guest_copied : (job : Job) (v : View) (g : ℕ) (op : UnitOp) (a : Aim) → copi
 guest_copied job v g op Alone = none_more (copied v)
 guest_copied job v g op Store = none_more (copied v)
 guest_copied job v g op Join =
-    let d = disk_of job.shape op.unit.0 in
+    let d = disk_of job.copy op.unit.0 in
     omega (arith, cursors-set_same v.disks d (joined (disk v d) g op.unit.0) refl)
 guest_copied job v g op Mirror = none_more (copied v)
 
@@ -186,12 +186,12 @@ applied-grows job v e flag i = step_ways (λ w t. applied w ≡ applied v + appl
 
 -- how great they are
 pub copied-within : (job : Job) (v : View) → IsViewOf job v → copied v ≤ block_count job
-copied-within job v i = cursors-within job.shape.disks v.disks i.lists.disks (λ d l. omega (arith, i.regions.cursor_fits d l))
+copied-within job v i = cursors-within job.copy.disks v.disks i.lists.disks (λ d l. omega (arith, i.regions.cursor_fits d l))
 
 pub copied-small : (job : Job) (v : View) → IsGoodJob job → IsViewOf job v → copied v < 2 ^ 32
 copied-small job v good i =
     let few = (good_within job.shape good.machine).few_units in
-    omega (arith, copied-within job v i, few)
+    omega (arith, copied-within job v i, few, good.same_units)
 
 pub history-within : (job : Job) (v : View) → IsViewOf job v → length v.history ≤ operation_count job
 history-within job v i = omega (arith, waiting-fits job v i)

@@ -74,10 +74,10 @@ guest_pushes job v k g =
       done_is = one_done (done_by v.history g) (done_by (push v.history e) g) (k == g) (done-push v.history e g);
     }
 
-guest_joins : (job : Job) (v : View) (k g : ℕ) → disk_of job.shape (next_operation job v k).unit.0 < length v.disks → Moves v (guest_by job v k (next_operation job v k) Join) g (Guest (record { 0 = k })) (guest_answer (next_operation job v k) Join)
+guest_joins : (job : Job) (v : View) (k g : ℕ) → disk_of job.copy (next_operation job v k).unit.0 < length v.disks → Moves v (guest_by job v k (next_operation job v k) Join) g (Guest (record { 0 = k })) (guest_answer (next_operation job v k) Join)
 guest_joins job v k g l =
     let unit = (next_operation job v k).unit.0 in
-    let d = disk_of job.shape unit in
+    let d = disk_of job.copy unit in
     record {
       ended_is = no_bits (ended v.history g) (k == g);
       waits_is = one_waits _ _ _ _ (k == g) (waits-set v.disks d (joined (disk v d) k unit) g l) (waits-push (disk v d).queue (record { guest = record { 0 = k }; unit = record { 0 = unit } }) g);
@@ -88,16 +88,16 @@ guest_joins job v k g l =
     none_of n true = omega arith
     none_of n false = omega arith
 
-guest_moves : (job : Job) (v : View) (k g : ℕ) (a : Aim) → (a ≡ Join → disk_of job.shape (next_operation job v k).unit.0 < length v.disks) → Moves v (guest_by job v k (next_operation job v k) a) g (Guest (record { 0 = k })) (guest_answer (next_operation job v k) a)
+guest_moves : (job : Job) (v : View) (k g : ℕ) (a : Aim) → (a ≡ Join → disk_of job.copy (next_operation job v k).unit.0 < length v.disks) → Moves v (guest_by job v k (next_operation job v k) a) g (Guest (record { 0 = k })) (guest_answer (next_operation job v k) a)
 guest_moves job v k g Alone l = guest_pushes job v k g
 guest_moves job v k g Store l = let same = guest_pushes job v k g in record { ended_is = same.ended_is; waits_is = same.waits_is; done_is = same.done_is }
 guest_moves job v k g Join l = guest_joins job v k g (l refl)
 guest_moves job v k g Mirror l = let same = guest_pushes job v k g in record { ended_is = same.ended_is; waits_is = same.waits_is; done_is = same.done_is }
 
-joins_disk : (job : Job) (v : View) (k : ℕ) → IsGoodJob job → IsViewOf job v → GuestGoes job v k → next_aim job v k ≡ Join → disk_of job.shape (next_operation job v k).unit.0 < length v.disks
+joins_disk : (job : Job) (v : View) (k : ℕ) → IsGoodJob job → IsViewOf job v → GuestGoes job v k → next_aim job v k ≡ Join → disk_of job.copy (next_operation job v k).unit.0 < length v.disks
 joins_disk job v k good i goes e =
     let op = next_operation job v k in
-    omega (arith, i.lists.disks, disk_in job.shape op.unit.0 (aim-join job v op e).block (mirror_unit job v k good goes))
+    omega (arith, i.lists.disks, disk_in job.copy op.unit.0 (aim-join job v op e).block (mirror_unit job v k good goes))
 
 guest_faults : (v : View) (k g : ℕ) → Moves v (ended_as v k Faulted) g (Guest (record { 0 = k })) (fault_answer (Guest (record { 0 = k })))
 guest_faults v k g =
@@ -233,7 +233,7 @@ run-ended job journal g good f r = omega (arith, (counts-run job journal g good 
 
 pub run-queued : (job : Job) (journal : List Entry) (g : ℕ) → IsGoodJob job → list_all (λ (e : Entry). fits job e.event) journal ≡ true → is_run job journal ≡ true →
     own_entries g is_queued journal ≡ releases job journal g + waits_in_all (run job journal).disks g
-run-queued job journal g good f r = omega (arith, (counts-run job journal g good f r).waits_is, waits-none job.shape.disks g)
+run-queued job journal g good f r = omega (arith, (counts-run job journal g good f r).waits_is, waits-none job.copy.disks g)
 
 pub run-own : (job : Job) (journal : List Entry) (g : ℕ) → IsGoodJob job → list_all (λ (e : Entry). fits job e.event) journal ≡ true → is_run job journal ≡ true →
     own_entries g happened journal + own_entries g is_fault journal + own_entries g is_queued journal ≡ ended (run job journal).history g + waits_in_all (run job journal).disks g

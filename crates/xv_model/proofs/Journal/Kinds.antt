@@ -71,4 +71,4 @@ journal-within job journal good f r = omega (arith, run-within job journal good 
 pub journal-small : (job : Job) (journal : List Entry) → IsGoodJob job → list_all (λ (e : Entry). fits job e.event) journal ≡ true → is_run job journal ≡ true → length journal < 2 ^ 32
 journal-small job journal good f r =
     let few = (good_within job.shape good.machine).few_units in
-    omega (arith, journal-within job journal good f r, few, good.operations)
+    omega (arith, journal-within job journal good f r, few, good.same_units, good.operations)

@@ -15,7 +15,7 @@ use Rattle.xv_model.specs.Contents.{front_operation}
 use Rattle.xv_model.specs.Outside.{Outside, Part, NoOutside, ReadSource, WriteSource, ReadDest, WriteDest, kind, part, part_of, whole, outside, IsWithin, unless_failed, calls_made_from, calls_made, calls_of_kind}
 use Rattle.xv_base.specs.declared.event.Event.TheVariants.{Guest, Begin, Read, Advance, Release, Round, Page, Send, Deliver, Apply, Ack, Credit, Stun, Switch, Cancel}
 use Rattle.xv_model.proofs.GoesOn.{guest_goes, read_goes, release_goes, page_goes, apply_goes}
-use Rattle.xv_model.proofs.Facts.{page_unit}
+use Rattle.xv_model.proofs.Facts.{page_unit, legal_unit}
 use Rattle.xv_model.proofs.Layouts.{is_block_after}
 use Rattle.xv_model.proofs.Legal.{front_has_more}
 use Rattle.xv_model.proofs.OneMore.{calls-one}
@@ -67,8 +67,8 @@ calls_of_kind-one job journal e c =
 whole_within : (job : Job) (unit : ℕ) → unit < unit_count job → IsWithin job (whole job unit)
 whole_within job unit lt = record { unit_is = lt; in_unit = omega arith }
 
-legal_within : (job : Job) (op : UnitOp) → IsLegal job.shape op → IsWithin job (part_of op)
-legal_within job op l = record { unit_is = l.unit_is; in_unit = l.in_unit }
+legal_within : (job : Job) (op : UnitOp) → IsGoodJob job → IsLegal job.shape op → IsWithin job (part_of op)
+legal_within job op good l = record { unit_is = legal_unit job op good l; in_unit = l.in_unit }
 
 guest_within : (job : Job) (q s w : Bool) (p : Part) → IsWithin job p → IfSome (part (if q then NoOutside else (if s then (if w then WriteDest p else ReadDest p) else (if w then WriteSource p else ReadSource p)))) (IsWithin job)
 guest_within job true s w p h = tt
@@ -77,11 +77,11 @@ guest_within job false true false p h = h
 guest_within job false false true p h = h
 guest_within job false false false p h = h
 
-read_unit : (job : Job) (v : View) (d : ℕ) (flag : Bool) → d < length job.shape.disks → IsViewOf job v → wait job v (Read d) flag ≡ None → cursor_unit job v d + (disk v d).got < unit_count job
+read_unit : (job : Job) (v : View) (d : ℕ) (flag : Bool) → d < length job.copy.disks → IsViewOf job v → wait job v (Read d) flag ≡ None → cursor_unit job v d + (disk v d).got < unit_count job
 read_unit job v d flag there inv w =
     let goes = read_goes job v d flag w in
     let fits = inv.regions.cursor_fits d (omega (arith, inv.lists.disks)) in
-    (is_block_after job.shape d (disk v d).cursor (disk v d).got there (omega (arith, goes.not_read, fits))).in_range
+    (is_block_after job.copy d (disk v d).cursor (disk v d).got there (omega (arith, goes.not_read, fits))).in_range
 
 pub ready_unit : (job : Job) (v : View) (flag : Bool) → IsViewOf job v → wait job v Apply flag ≡ None → (ready_message v.hold).unit.0 < unit_count job
 ready_unit job v flag inv w =
@@ -94,13 +94,13 @@ ready_unit job v flag inv w =
 pub parts-within : (job : Job) (v : View) (e : Event) (flag : Bool) → IsGoodJob job → fits job e ≡ true → IsViewOf job v → wait job v e flag ≡ None → IfSome (part (outside job v e)) (IsWithin job)
 parts-within job v (Guest g) flag good f inv w =
     let op = next_operation job v g.0 in
-    guest_within job (is_join (next_aim job v g.0)) (is_switched v.phase) (is_some op.write) (part_of op) (legal_within job op (good.legal g.0 (ended v.history g.0) (guest_goes job v g.0 flag w).more))
+    guest_within job (is_join (next_aim job v g.0)) (is_switched v.phase) (is_some op.write) (part_of op) (legal_within job op good (good.legal g.0 (ended v.history g.0) (guest_goes job v g.0 flag w).more))
 parts-within job v (Begin d) flag good f inv w = tt
-parts-within job v (Read d) flag good f inv w = whole_within job (cursor_unit job v d + (disk v d).got) (read_unit job v d flag (ltb-true d (length job.shape.disks) f) inv w)
+parts-within job v (Read d) flag good f inv w = whole_within job (cursor_unit job v d + (disk v d).got) (read_unit job v d flag (ltb-true d (length job.copy.disks) f) inv w)
 parts-within job v (Advance d) flag good f inv w = tt
 parts-within job v (Release d) flag good f inv w =
     let g = (front (disk v d)).guest.0 in
-    legal_within job (front_operation job v d) (good.legal g (ended v.history g) (front_has_more job v d inv (release_goes job v d flag w).some_queue))
+    legal_within job (front_operation job v d) good (good.legal g (ended v.history g) (front_has_more job v d inv (release_goes job v d flag w).some_queue))
 parts-within job v Round flag good f inv w = tt
 parts-within job v Page flag good f inv w = whole_within job (least v.to_send) (page_unit job v inv (page_goes job v flag w))
 parts-within job v (Send s) flag good f inv w = tt

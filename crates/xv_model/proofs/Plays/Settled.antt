@@ -13,7 +13,7 @@ use Rattle.xv_model.proofs.Contents.Switching.{content-unwritten_from}
 use Rattle.xv_model.proofs.Sums.Versions.{issued-sum}
 
 abbrev settled_in : Job → View → ℕ → Type 0
-settled_in job v unit = is_settled job.shape v.disks v.dirty v.to_send unit ≡ true
+settled_in job v unit = is_settled job.copy v.disks v.dirty v.to_send unit ≡ true
 
 pub settled-applied : (job : Job) (v : View) (unit : ℕ) → IsViewOf job v → settled_in job v unit → outstanding v (of_unit unit) ≡ 0 → 0 < number v.hold.applied unit
 settled-applied job v unit inv settled none =
@@ -31,7 +31,7 @@ settled-last job v unit inv live settled none =
     sym (content-unwritten_from job v.history unit (number v.hold.recorded unit) (length v.history) (omega arith) unwritten)
 
 settled-unit : (job : Job) (v : View) (unit : ℕ) → settled_in job v unit → unit < unit_count job
-settled-unit job v unit settled = ltb-true unit (units job.shape) (and_parts (nat_lt unit (units job.shape)) _ settled).0
+settled-unit job v unit settled = ltb-true unit (units job.copy) (and_parts (nat_lt unit (units job.copy)) _ settled).0
 
 pub settled-sides : (job : Job) (v : View) (c : Contents) (unit : ℕ) → IsViewOf job v → HoldsContents job v c → is_live v.phase ≡ true → settled_in job v unit → outstanding v (of_unit unit) ≡ 0 → unit_content c.dest unit ≡ unit_content c.source unit
 settled-sides job v c unit inv holds live settled none =

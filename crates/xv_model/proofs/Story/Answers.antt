@@ -36,7 +36,7 @@ guest-told job v g Store = refl
 guest-told job v g Mirror = refl
 guest-told job v g Join =
     let unit = (next_operation job v g.0).unit.0 in
-    ap (with_queues v) (queues-joined v.disks (disk_of job.shape unit) g.0 unit)
+    ap (with_queues v) (queues-joined v.disks (disk_of job.copy unit) g.0 unit)
 
 front-told : (v : View) (d : ℕ) (outcome : Outcome) → front_ends (story_in v) d outcome ≡ with_front v outcome (guest_of (front (disk v d))) (map queued (set v.disks d (front_gone (disk v d))))
 front-told v d outcome =

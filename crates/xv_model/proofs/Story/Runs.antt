@@ -68,7 +68,7 @@ first-written (suc n) = ap (λ (bs : List Bool). false ∷ bs) (first-written n)
 
 first-story : (job : Job) → first_story job ≡ story_in (first_view job)
 first-story job =
-    ap (λ (qs : List (List ℕ)). record (first_story job) { queues = qs }) (first-queues job.shape.disks)
+    ap (λ (qs : List (List ℕ)). record (first_story job) { queues = qs }) (first-queues job.copy.disks)
     ∙ ap (λ (bs : List Bool). record (story_in (first_view job)) { written = bs }) (first-written (unit_count job))
 
 pub story-is : (job : Job) (journal : List Entry) → is_run job journal ≡ true → story_of job journal ≡ story_in (run job journal)

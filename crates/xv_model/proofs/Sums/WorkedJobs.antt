@@ -24,6 +24,7 @@ everywhere-legal (suc guest) k l = absurd (omega arith)
 pub everywhere-good : IsGoodJob versions_everywhere_job
 everywhere-good = record {
   machine = record { no_fault = everywhere-layout; few_disks = omega arith };
+  same_units = refl;
   some_blocks = everywhere-blocks;
   formats = inl (refl, refl);
   streams = (omega arith, omega arith);
@@ -60,6 +61,7 @@ room-legal (suc (suc guest)) k l = absurd (omega arith)
 pub room-good : IsGoodJob room_in_the_outbox_job
 room-good = record {
   machine = record { no_fault = room-layout; few_disks = omega arith };
+  same_units = refl;
   some_blocks = room-blocks;
   formats = inl (refl, refl);
   streams = (omega arith, omega arith);

@@ -1,6 +1,6 @@
 -- After the switchover the guest writes and reads at the destination.
 use Rattle.std.specs.Prelude.{List, [], ◌∷◌, Some, None}
-use Rattle.xv_model.specs.Job.{Job}
+use Rattle.xv_model.specs.Job.{Job, Shape, first_start}
 use Rattle.xv_model.specs.Wait.{Event}
 use Rattle.xv_model.specs.Effect.{Turn}
 use Rattle.xv_model.specs.Worked.{guest, done, op}
@@ -11,15 +11,19 @@ use Rattle.xv_base.specs.declared.event.Phase.TheVariants.{Switched}
 use Rattle.xv_base.specs.declared.event.Totals.{Totals}
 
 abbrev pub after_the_switch_job : Job
-after_the_switch_job = record {
-  shape = record { pages = 1; page_size = 16; disks = (record { blocks = 1; block_size = 16 } ∷ []) };
-  format = 1;
-  group = 1;
-  config = record { streams = 1; credit = 2; outbox = 2; region = 1; rounds = 1; dirty = 0; cancel = None };
-  faults = [];
-  init = [];
-  traces = ((op 1 0 16 (Some (90 ∷ [])) ∷ op 1 0 2 None ∷ op 1 0 16 (Some (165 ∷ [])) ∷ op 1 14 2 None ∷ []) ∷ []);
-}
+after_the_switch_job =
+    let machine : Shape = record { pages = 1; page_size = 16; disks = (record { blocks = 1; block_size = 16 } ∷ []) } in
+    record {
+      shape = machine;
+      copy = machine;
+      format = 1;
+      group = 1;
+      config = record { streams = 1; credit = 2; outbox = 2; region = 1; rounds = 1; dirty = 0; cancel = None };
+      faults = [];
+      init = [];
+      traces = ((op 1 0 16 (Some (90 ∷ [])) ∷ op 1 0 2 None ∷ op 1 0 16 (Some (165 ∷ [])) ∷ op 1 14 2 None ∷ []) ∷ []);
+      start = first_start;
+    }
 
 abbrev pub after_the_switch_events : List Event
 after_the_switch_events =

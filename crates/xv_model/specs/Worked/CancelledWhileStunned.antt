@@ -1,6 +1,6 @@
 -- A cancelled migration leaves the guest with the source.
 use Rattle.std.specs.Prelude.{List, [], ◌∷◌, Some, None}
-use Rattle.xv_model.specs.Job.{Job}
+use Rattle.xv_model.specs.Job.{Job, Shape, first_start}
 use Rattle.xv_model.specs.Wait.{Event}
 use Rattle.xv_model.specs.Effect.{Turn}
 use Rattle.xv_model.specs.Worked.{guest, done, op}
@@ -11,15 +11,19 @@ use Rattle.xv_base.specs.declared.event.Phase.TheVariants.{Cancelled}
 use Rattle.xv_base.specs.declared.event.Totals.{Totals}
 
 abbrev pub cancelled_while_stunned_job : Job
-cancelled_while_stunned_job = record {
-  shape = record { pages = 1; page_size = 16; disks = [] };
-  format = 1;
-  group = 1;
-  config = record { streams = 1; credit = 2; outbox = 2; region = 1; rounds = 1; dirty = 0; cancel = Some 1 };
-  faults = [];
-  init = [];
-  traces = ((op 0 0 1 (Some (170 ∷ [])) ∷ op 0 0 2 None ∷ []) ∷ []);
-}
+cancelled_while_stunned_job =
+    let machine : Shape = record { pages = 1; page_size = 16; disks = [] } in
+    record {
+      shape = machine;
+      copy = machine;
+      format = 1;
+      group = 1;
+      config = record { streams = 1; credit = 2; outbox = 2; region = 1; rounds = 1; dirty = 0; cancel = Some 1 };
+      faults = [];
+      init = [];
+      traces = ((op 0 0 1 (Some (170 ∷ [])) ∷ op 0 0 2 None ∷ []) ∷ []);
+      start = first_start;
+    }
 
 abbrev pub cancelled_while_stunned_events : List Event
 cancelled_while_stunned_events =

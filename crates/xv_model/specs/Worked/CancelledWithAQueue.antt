@@ -1,6 +1,6 @@
 -- A migration is cancelled while two writes wait: one is done on the source afterwards, the other fails there.
 use Rattle.std.specs.Prelude.{List, [], ◌∷◌, Some, None}
-use Rattle.xv_model.specs.Job.{Job}
+use Rattle.xv_model.specs.Job.{Job, Shape, first_start}
 use Rattle.xv_model.specs.Wait.{Event}
 use Rattle.xv_model.specs.Effect.{Turn}
 use Rattle.xv_model.specs.Worked.{guest, done, op}
@@ -12,15 +12,19 @@ use Rattle.xv_base.specs.declared.event.Phase.TheVariants.{Cancelled}
 use Rattle.xv_base.specs.declared.event.Totals.{Totals}
 
 abbrev pub cancelled_with_a_queue_job : Job
-cancelled_with_a_queue_job = record {
-  shape = record { pages = 1; page_size = 16; disks = (record { blocks = 4; block_size = 16 } ∷ []) };
-  format = 1;
-  group = 1;
-  config = record { streams = 3; credit = 8; outbox = 8; region = 2; rounds = 2; dirty = 0; cancel = Some 1 };
-  faults = (FailWrite 2 ∷ []);
-  init = [];
-  traces = ((op 1 0 16 (Some (170 ∷ [])) ∷ []) ∷ (op 2 0 16 (Some (187 ∷ [])) ∷ []) ∷ (op 0 0 4 None ∷ op 1 0 2 None ∷ []) ∷ []);
-}
+cancelled_with_a_queue_job =
+    let machine : Shape = record { pages = 1; page_size = 16; disks = (record { blocks = 4; block_size = 16 } ∷ []) } in
+    record {
+      shape = machine;
+      copy = machine;
+      format = 1;
+      group = 1;
+      config = record { streams = 3; credit = 8; outbox = 8; region = 2; rounds = 2; dirty = 0; cancel = Some 1 };
+      faults = (FailWrite 2 ∷ []);
+      init = [];
+      traces = ((op 1 0 16 (Some (170 ∷ [])) ∷ []) ∷ (op 2 0 16 (Some (187 ∷ [])) ∷ []) ∷ (op 0 0 4 None ∷ op 1 0 2 None ∷ []) ∷ []);
+      start = first_start;
+    }
 
 abbrev pub cancelled_with_a_queue_events : List Event
 cancelled_with_a_queue_events =

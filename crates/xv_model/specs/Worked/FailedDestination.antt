@@ -1,6 +1,6 @@
 -- A failed write at the destination ends the migration, and the queued write goes to the source.
 use Rattle.std.specs.Prelude.{List, [], ◌∷◌, Some, None}
-use Rattle.xv_model.specs.Job.{Job}
+use Rattle.xv_model.specs.Job.{Job, Shape, first_start}
 use Rattle.xv_model.specs.Wait.{Event}
 use Rattle.xv_model.specs.Effect.{Turn}
 use Rattle.xv_model.specs.Worked.{guest, done, op}
@@ -13,15 +13,19 @@ use Rattle.xv_base.specs.declared.event.Phase.TheVariants.{Failed}
 use Rattle.xv_base.specs.declared.event.Totals.{Totals}
 
 abbrev pub failed_destination_job : Job
-failed_destination_job = record {
-  shape = record { pages = 1; page_size = 16; disks = (record { blocks = 4; block_size = 16 } ∷ []) };
-  format = 1;
-  group = 1;
-  config = record { streams = 3; credit = 8; outbox = 8; region = 2; rounds = 2; dirty = 0; cancel = None };
-  faults = (FailDestWrite 1 ∷ []);
-  init = [];
-  traces = ((op 3 0 16 (Some (238 ∷ [])) ∷ []) ∷ []);
-}
+failed_destination_job =
+    let machine : Shape = record { pages = 1; page_size = 16; disks = (record { blocks = 4; block_size = 16 } ∷ []) } in
+    record {
+      shape = machine;
+      copy = machine;
+      format = 1;
+      group = 1;
+      config = record { streams = 3; credit = 8; outbox = 8; region = 2; rounds = 2; dirty = 0; cancel = None };
+      faults = (FailDestWrite 1 ∷ []);
+      init = [];
+      traces = ((op 3 0 16 (Some (238 ∷ [])) ∷ []) ∷ []);
+      start = first_start;
+    }
 
 abbrev pub failed_destination_events : List Event
 failed_destination_events =

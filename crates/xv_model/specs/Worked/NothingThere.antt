@@ -1,6 +1,6 @@
 -- Where there is nothing to do every event waits.
 use Rattle.std.specs.Prelude.{List, [], ◌∷◌, None}
-use Rattle.xv_model.specs.Job.{Job}
+use Rattle.xv_model.specs.Job.{Job, Shape, first_start}
 use Rattle.xv_model.specs.Wait.{Event}
 use Rattle.xv_model.specs.Effect.{Turn}
 use Rattle.xv_model.specs.Worked.{guest}
@@ -11,15 +11,19 @@ use Rattle.xv_base.specs.declared.event.Phase.TheVariants.{Running}
 use Rattle.xv_base.specs.declared.event.Totals.{Totals}
 
 abbrev pub nothing_there_job : Job
-nothing_there_job = record {
-  shape = record { pages = 1; page_size = 16; disks = (record { blocks = 4; block_size = 16 } ∷ []) };
-  format = 1;
-  group = 1;
-  config = record { streams = 3; credit = 8; outbox = 8; region = 2; rounds = 2; dirty = 0; cancel = None };
-  faults = [];
-  init = [];
-  traces = ([] ∷ []);
-}
+nothing_there_job =
+    let machine : Shape = record { pages = 1; page_size = 16; disks = (record { blocks = 4; block_size = 16 } ∷ []) } in
+    record {
+      shape = machine;
+      copy = machine;
+      format = 1;
+      group = 1;
+      config = record { streams = 3; credit = 8; outbox = 8; region = 2; rounds = 2; dirty = 0; cancel = None };
+      faults = [];
+      init = [];
+      traces = ([] ∷ []);
+      start = first_start;
+    }
 
 abbrev pub nothing_there_events : List Event
 nothing_there_events =

@@ -1,6 +1,6 @@
 -- A page that is stored again after it was sent is sent again.
 use Rattle.std.specs.Prelude.{List, [], ◌∷◌, Some, None}
-use Rattle.xv_model.specs.Job.{Job}
+use Rattle.xv_model.specs.Job.{Job, Shape, first_start}
 use Rattle.xv_model.specs.Wait.{Event}
 use Rattle.xv_model.specs.Effect.{Turn}
 use Rattle.xv_model.specs.Worked.{guest, done, op}
@@ -11,15 +11,19 @@ use Rattle.xv_base.specs.declared.event.Phase.TheVariants.{Stunned}
 use Rattle.xv_base.specs.declared.event.Totals.{Totals}
 
 abbrev pub page_stored_again_job : Job
-page_stored_again_job = record {
-  shape = record { pages = 2; page_size = 16; disks = [] };
-  format = 1;
-  group = 1;
-  config = record { streams = 1; credit = 8; outbox = 8; region = 1; rounds = 2; dirty = 0; cancel = None };
-  faults = [];
-  init = [];
-  traces = ((op 1 0 4 (Some (1 ∷ 2 ∷ [])) ∷ op 1 1 1 (Some (255 ∷ [])) ∷ []) ∷ []);
-}
+page_stored_again_job =
+    let machine : Shape = record { pages = 2; page_size = 16; disks = [] } in
+    record {
+      shape = machine;
+      copy = machine;
+      format = 1;
+      group = 1;
+      config = record { streams = 1; credit = 8; outbox = 8; region = 1; rounds = 2; dirty = 0; cancel = None };
+      faults = [];
+      init = [];
+      traces = ((op 1 0 4 (Some (1 ∷ 2 ∷ [])) ∷ op 1 1 1 (Some (255 ∷ [])) ∷ []) ∷ []);
+      start = first_start;
+    }
 
 abbrev pub page_stored_again_events : List Event
 page_stored_again_events =

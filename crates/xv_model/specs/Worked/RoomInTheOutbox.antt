@@ -1,6 +1,6 @@
 -- Two places in the outbox: a queued write, a write behind, a region and a page each wait for their places.
 use Rattle.std.specs.Prelude.{List, [], ◌∷◌, Some, None}
-use Rattle.xv_model.specs.Job.{Job}
+use Rattle.xv_model.specs.Job.{Job, Shape, first_start}
 use Rattle.xv_model.specs.Wait.{Event}
 use Rattle.xv_model.specs.Effect.{Turn}
 use Rattle.xv_model.specs.Worked.{guest, done, op}
@@ -11,15 +11,19 @@ use Rattle.xv_base.specs.declared.event.Phase.TheVariants.{Running}
 use Rattle.xv_base.specs.declared.event.Totals.{Totals}
 
 abbrev pub room_in_the_outbox_job : Job
-room_in_the_outbox_job = record {
-  shape = record { pages = 1; page_size = 16; disks = (record { blocks = 4; block_size = 16 } ∷ []) };
-  format = 1;
-  group = 1;
-  config = record { streams = 1; credit = 16; outbox = 2; region = 2; rounds = 2; dirty = 0; cancel = None };
-  faults = [];
-  init = [];
-  traces = ((op 1 0 16 (Some (17 ∷ [])) ∷ []) ∷ (op 2 0 16 (Some (34 ∷ [])) ∷ []) ∷ []);
-}
+room_in_the_outbox_job =
+    let machine : Shape = record { pages = 1; page_size = 16; disks = (record { blocks = 4; block_size = 16 } ∷ []) } in
+    record {
+      shape = machine;
+      copy = machine;
+      format = 1;
+      group = 1;
+      config = record { streams = 1; credit = 16; outbox = 2; region = 2; rounds = 2; dirty = 0; cancel = None };
+      faults = [];
+      init = [];
+      traces = ((op 1 0 16 (Some (17 ∷ [])) ∷ []) ∷ (op 2 0 16 (Some (34 ∷ [])) ∷ []) ∷ []);
+      start = first_start;
+    }
 
 abbrev pub room_in_the_outbox_events : List Event
 room_in_the_outbox_events =

@@ -1,6 +1,6 @@
 -- A round of pages beside the copy of the disk.
 use Rattle.std.specs.Prelude.{List, [], ◌∷◌, Some, None}
-use Rattle.xv_model.specs.Job.{Job}
+use Rattle.xv_model.specs.Job.{Job, Shape, first_start}
 use Rattle.xv_model.specs.Wait.{Event}
 use Rattle.xv_model.specs.Effect.{Turn}
 use Rattle.xv_model.specs.Worked.{done}
@@ -11,15 +11,19 @@ use Rattle.xv_base.specs.declared.event.Phase.TheVariants.{Switched}
 use Rattle.xv_base.specs.declared.event.Totals.{Totals}
 
 abbrev pub rounds_beside_the_pass_job : Job
-rounds_beside_the_pass_job = record {
-  shape = record { pages = 1; page_size = 16; disks = (record { blocks = 2; block_size = 16 } ∷ []) };
-  format = 2;
-  group = 2;
-  config = record { streams = 1; credit = 4; outbox = 4; region = 1; rounds = 1; dirty = 0; cancel = None };
-  faults = [];
-  init = [];
-  traces = ([] ∷ []);
-}
+rounds_beside_the_pass_job =
+    let machine : Shape = record { pages = 1; page_size = 16; disks = (record { blocks = 2; block_size = 16 } ∷ []) } in
+    record {
+      shape = machine;
+      copy = machine;
+      format = 2;
+      group = 2;
+      config = record { streams = 1; credit = 4; outbox = 4; region = 1; rounds = 1; dirty = 0; cancel = None };
+      faults = [];
+      init = [];
+      traces = ([] ∷ []);
+      start = first_start;
+    }
 
 abbrev pub rounds_beside_the_pass_events : List Event
 rounds_beside_the_pass_events =

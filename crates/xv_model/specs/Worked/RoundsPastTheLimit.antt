@@ -1,6 +1,6 @@
 -- Rounds beside the copy may pass the limit of rounds.
 use Rattle.std.specs.Prelude.{List, [], ◌∷◌, Some, None}
-use Rattle.xv_model.specs.Job.{Job}
+use Rattle.xv_model.specs.Job.{Job, Shape, first_start}
 use Rattle.xv_model.specs.Wait.{Event}
 use Rattle.xv_model.specs.Effect.{Turn}
 use Rattle.xv_model.specs.Worked.{guest, done, op}
@@ -11,15 +11,19 @@ use Rattle.xv_base.specs.declared.event.Phase.TheVariants.{Stunned}
 use Rattle.xv_base.specs.declared.event.Totals.{Totals}
 
 abbrev pub rounds_past_the_limit_job : Job
-rounds_past_the_limit_job = record {
-  shape = record { pages = 1; page_size = 16; disks = (record { blocks = 1; block_size = 16 } ∷ []) };
-  format = 2;
-  group = 1;
-  config = record { streams = 1; credit = 8; outbox = 8; region = 1; rounds = 1; dirty = 0; cancel = None };
-  faults = [];
-  init = [];
-  traces = ((op 0 0 1 (Some (170 ∷ [])) ∷ op 0 0 1 (Some (187 ∷ [])) ∷ []) ∷ []);
-}
+rounds_past_the_limit_job =
+    let machine : Shape = record { pages = 1; page_size = 16; disks = (record { blocks = 1; block_size = 16 } ∷ []) } in
+    record {
+      shape = machine;
+      copy = machine;
+      format = 2;
+      group = 1;
+      config = record { streams = 1; credit = 8; outbox = 8; region = 1; rounds = 1; dirty = 0; cancel = None };
+      faults = [];
+      init = [];
+      traces = ((op 0 0 1 (Some (170 ∷ [])) ∷ op 0 0 1 (Some (187 ∷ [])) ∷ []) ∷ []);
+      start = first_start;
+    }
 
 abbrev pub rounds_past_the_limit_events : List Event
 rounds_past_the_limit_events =

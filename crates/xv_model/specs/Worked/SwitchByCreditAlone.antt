@@ -1,6 +1,6 @@
 -- The switchover waits until the credit is whole.
 use Rattle.std.specs.Prelude.{List, [], ◌∷◌, Some, None}
-use Rattle.xv_model.specs.Job.{Job}
+use Rattle.xv_model.specs.Job.{Job, Shape, first_start}
 use Rattle.xv_model.specs.Wait.{Event}
 use Rattle.xv_model.specs.Effect.{Turn}
 use Rattle.xv_model.specs.Worked.{guest, done}
@@ -11,15 +11,19 @@ use Rattle.xv_base.specs.declared.event.Phase.TheVariants.{Switched}
 use Rattle.xv_base.specs.declared.event.Totals.{Totals}
 
 abbrev pub switch_by_credit_alone_job : Job
-switch_by_credit_alone_job = record {
-  shape = record { pages = 1; page_size = 16; disks = [] };
-  format = 1;
-  group = 1;
-  config = record { streams = 1; credit = 2; outbox = 2; region = 1; rounds = 1; dirty = 0; cancel = None };
-  faults = [];
-  init = [];
-  traces = ([] ∷ []);
-}
+switch_by_credit_alone_job =
+    let machine : Shape = record { pages = 1; page_size = 16; disks = [] } in
+    record {
+      shape = machine;
+      copy = machine;
+      format = 1;
+      group = 1;
+      config = record { streams = 1; credit = 2; outbox = 2; region = 1; rounds = 1; dirty = 0; cancel = None };
+      faults = [];
+      init = [];
+      traces = ([] ∷ []);
+      start = first_start;
+    }
 
 abbrev pub switch_by_credit_alone_events : List Event
 switch_by_credit_alone_events =

@@ -1,6 +1,6 @@
 -- A full outbox holds the guest and the copy back, and want of credit the outbox.
 use Rattle.std.specs.Prelude.{List, [], ◌∷◌, Some, None}
-use Rattle.xv_model.specs.Job.{Job}
+use Rattle.xv_model.specs.Job.{Job, Shape, first_start}
 use Rattle.xv_model.specs.Wait.{Event}
 use Rattle.xv_model.specs.Effect.{Turn}
 use Rattle.xv_model.specs.Worked.{guest, done, op}
@@ -11,15 +11,19 @@ use Rattle.xv_base.specs.declared.event.Phase.TheVariants.{Running}
 use Rattle.xv_base.specs.declared.event.Totals.{Totals}
 
 abbrev pub throttling_job : Job
-throttling_job = record {
-  shape = record { pages = 1; page_size = 16; disks = (record { blocks = 4; block_size = 16 } ∷ []) };
-  format = 1;
-  group = 1;
-  config = record { streams = 3; credit = 1; outbox = 1; region = 1; rounds = 2; dirty = 0; cancel = None };
-  faults = [];
-  init = [];
-  traces = ((op 1 0 16 (Some (187 ∷ [])) ∷ []) ∷ []);
-}
+throttling_job =
+    let machine : Shape = record { pages = 1; page_size = 16; disks = (record { blocks = 4; block_size = 16 } ∷ []) } in
+    record {
+      shape = machine;
+      copy = machine;
+      format = 1;
+      group = 1;
+      config = record { streams = 3; credit = 1; outbox = 1; region = 1; rounds = 2; dirty = 0; cancel = None };
+      faults = [];
+      init = [];
+      traces = ((op 1 0 16 (Some (187 ∷ [])) ∷ []) ∷ []);
+      start = first_start;
+    }
 
 abbrev pub throttling_events : List Event
 throttling_events =

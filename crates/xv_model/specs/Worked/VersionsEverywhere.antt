@@ -1,6 +1,6 @@
 -- One block's versions are in every place at once, applied, held, on a stream and in the outbox; then all are applied.
 use Rattle.std.specs.Prelude.{List, [], ◌∷◌, Some, None}
-use Rattle.xv_model.specs.Job.{Job}
+use Rattle.xv_model.specs.Job.{Job, Shape, first_start}
 use Rattle.xv_model.specs.Wait.{Event}
 use Rattle.xv_model.specs.Effect.{Turn}
 use Rattle.xv_model.specs.Worked.{guest, done, op}
@@ -11,15 +11,19 @@ use Rattle.xv_base.specs.declared.event.Phase.TheVariants.{Running}
 use Rattle.xv_base.specs.declared.event.Totals.{Totals}
 
 abbrev pub versions_everywhere_job : Job
-versions_everywhere_job = record {
-  shape = record { pages = 1; page_size = 16; disks = (record { blocks = 1; block_size = 16 } ∷ []) };
-  format = 1;
-  group = 1;
-  config = record { streams = 2; credit = 8; outbox = 8; region = 1; rounds = 2; dirty = 0; cancel = None };
-  faults = [];
-  init = [];
-  traces = ((op 1 0 16 (Some (17 ∷ [])) ∷ op 1 0 16 (Some (34 ∷ [])) ∷ op 1 0 16 (Some (51 ∷ [])) ∷ []) ∷ []);
-}
+versions_everywhere_job =
+    let machine : Shape = record { pages = 1; page_size = 16; disks = (record { blocks = 1; block_size = 16 } ∷ []) } in
+    record {
+      shape = machine;
+      copy = machine;
+      format = 1;
+      group = 1;
+      config = record { streams = 2; credit = 8; outbox = 8; region = 1; rounds = 2; dirty = 0; cancel = None };
+      faults = [];
+      init = [];
+      traces = ((op 1 0 16 (Some (17 ∷ [])) ∷ op 1 0 16 (Some (34 ∷ [])) ∷ op 1 0 16 (Some (51 ∷ [])) ∷ []) ∷ []);
+      start = first_start;
+    }
 
 abbrev pub versions_everywhere_events : List Event
 versions_everywhere_events =

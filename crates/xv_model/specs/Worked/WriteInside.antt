@@ -1,6 +1,6 @@
 -- A write inside the region waits until the region is behind.
 use Rattle.std.specs.Prelude.{List, [], ◌∷◌, Some, None}
-use Rattle.xv_model.specs.Job.{Job}
+use Rattle.xv_model.specs.Job.{Job, Shape, first_start}
 use Rattle.xv_model.specs.Wait.{Event}
 use Rattle.xv_model.specs.Effect.{Turn}
 use Rattle.xv_model.specs.Worked.{guest, done, op}
@@ -11,15 +11,19 @@ use Rattle.xv_base.specs.declared.event.Phase.TheVariants.{Running}
 use Rattle.xv_base.specs.declared.event.Totals.{Totals}
 
 abbrev pub write_inside_job : Job
-write_inside_job = record {
-  shape = record { pages = 1; page_size = 16; disks = (record { blocks = 4; block_size = 16 } ∷ []) };
-  format = 1;
-  group = 1;
-  config = record { streams = 3; credit = 8; outbox = 8; region = 2; rounds = 2; dirty = 0; cancel = None };
-  faults = [];
-  init = [];
-  traces = ((op 2 0 16 (Some (204 ∷ [])) ∷ []) ∷ []);
-}
+write_inside_job =
+    let machine : Shape = record { pages = 1; page_size = 16; disks = (record { blocks = 4; block_size = 16 } ∷ []) } in
+    record {
+      shape = machine;
+      copy = machine;
+      format = 1;
+      group = 1;
+      config = record { streams = 3; credit = 8; outbox = 8; region = 2; rounds = 2; dirty = 0; cancel = None };
+      faults = [];
+      init = [];
+      traces = ((op 2 0 16 (Some (204 ∷ [])) ∷ []) ∷ []);
+      start = first_start;
+    }
 
 abbrev pub write_inside_events : List Event
 write_inside_events =

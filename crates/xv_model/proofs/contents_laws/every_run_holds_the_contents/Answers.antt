@@ -8,4 +8,4 @@ use Rattle.xv_model.proofs.contents_laws.every_run_holds_the_contents.Goals as g
 
 pub returns : goal.returns
 returns c = λ job dest journal good same fit.
-    (contents-run job journal (first_view job) (first_contents job dest) good (λ v e flag. step-holds job v e flag good) fit (first_view-holds job good) (contents-first job dest same)).contents
+    (contents-run job journal (first_view job) (first_contents job dest) good (λ v e flag. step-holds job v e flag good) fit (first_view-holds job good) (contents-first job dest good same)).contents

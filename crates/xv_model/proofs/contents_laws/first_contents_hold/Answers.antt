@@ -2,4 +2,4 @@ use Rattle.xv_model.proofs.Contents.Steps.{contents-first}
 use Rattle.xv_model.proofs.contents_laws.first_contents_hold.Goals as goal
 
 pub returns : goal.returns
-returns c = λ job dest good same. contents-first job dest same
+returns c = contents-first
