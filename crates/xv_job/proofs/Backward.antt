@@ -151,6 +151,7 @@ legal_at w f h guest k lt =
 good_job : (w : Written) → IsFixed w → IsListed 14 w → exceeds w.config.cancel (operations_so_far w) ≡ false → IsGoodJob (job_of w)
 good_job w f l fits = record {
   machine = f.good;
+  same_units = refl;
   some_blocks = some_blocks_at w.shape.disks f.some_blocks;
   formats = f.formats;
   streams = f.streams;

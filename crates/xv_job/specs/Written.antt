@@ -11,7 +11,7 @@ use Rattle.xv_trace.specs.declared.op.Op.{Op}
 use Rattle.xv_trace.specs.Operations.{all_unit_operations, no_op}
 use Rattle.xv_trace.specs.OpText.{IsGoodOp, Program}
 use Rattle.xv_text.specs.Fields.{IsPattern}
-use Rattle.xv_model.specs.Job.{Job, IsGoodJob, no_init}
+use Rattle.xv_model.specs.Job.{Job, IsGoodJob, no_init, first_start}
 
 pub record Written : Type 0 where
   pub shape : Shape
@@ -34,16 +34,18 @@ abbrev pub written_of : Shape → ℕ → ℕ → Config → List Fault → List
 written_of shape format group config faults init traces =
     record { shape = shape; format = format; group = group; config = config; faults = faults; init = init; traces = ops_held traces }
 
--- the job that the machine runs: each guest's operations as unit operations
+-- the job that the machine runs, as a first attempt: each guest's operations as unit operations
 abbrev pub job_of : Written → Job
 job_of w = record {
   shape = w.shape;
+  copy = w.shape;
   format = w.format;
   group = w.group;
   config = w.config;
   faults = w.faults;
   init = w.init;
   traces = map (all_unit_operations w.shape) w.traces;
+  start = first_start;
 }
 
 -- guest number g's operations

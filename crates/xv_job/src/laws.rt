@@ -1,7 +1,8 @@
 //! The laws of jobs and their texts, each as the contract of a function that does nothing.
 
 ghost use Rattle.std.specs.Prelude.{◌≡◌, ◌++◌, ℕ, List, None};
-ghost use Rattle.xv_job.specs.Written.{Written, IsGoodWritten};
+ghost use Rattle.xv_model.specs.Job.{IsFirst};
+ghost use Rattle.xv_job.specs.Written.{Written, IsGoodWritten, job_of};
 ghost use Rattle.xv_job.specs.JobText.{job_text};
 ghost use Rattle.xv_job.specs.Texts.{text_fault, job_said, SaysJob, IsReadBack};
 
@@ -18,4 +19,9 @@ pub fn texts_say_jobs()
 /// No text of a job begins with the text of another.
 pub fn texts_begin_with_one_job()
     ensures { (v w : Written) (a b : List ℕ) → IsGoodWritten v → IsGoodWritten w → job_text v ++ a ≡ job_text w ++ b → v ≡ w }
+{}
+
+/// The job of what is written is a first attempt.
+pub fn jobs_are_first_attempts()
+    ensures { (w : Written) → IsFirst (job_of w) }
 {}

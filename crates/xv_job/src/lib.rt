@@ -23,7 +23,9 @@ mod traces;
 mod word;
 
 pub use job::Job;
-pub use laws::{jobs_are_read_back, texts_begin_with_one_job, texts_say_jobs};
+pub use laws::{
+    jobs_are_first_attempts, jobs_are_read_back, texts_begin_with_one_job, texts_say_jobs,
+};
 pub use made::make_job;
 pub use print::print_job;
 pub use reading::read_job;
