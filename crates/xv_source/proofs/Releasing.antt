@@ -148,7 +148,7 @@ free-by false false true inside full lets over = absurd (cc)
 pub frees-over : (job : Job) (v : View) (d : ℕ) (op : UnitOp) (old : Source) → Allows job v (Release d) old → is_running v.phase ≡ false → front_operation job v d ≡ op → IsLegal old.shape op → Frees job v d op old
 frees-over job v d op old allows over front_is legal = record {
   of = allows.of;
-  goes = λ flag. free-by (is_empty (disk v d).queue) (cancel_due job v) (is_running v.phase) (is_inside (disk v d) (block_of job.shape (front (disk v d)).unit.0)) (is_full job v) allows.lets over;
+  goes = λ flag. free-by (is_empty (disk v d).queue) (cancel_due job v) (is_running v.phase) (is_inside (disk v d) (block_of job.copy (front (disk v d)).unit.0)) (is_full job v) allows.lets over;
   front_is = front_is;
   legal = legal;
 }

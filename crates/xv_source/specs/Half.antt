@@ -25,10 +25,10 @@ pub record Source : Type 0 where
   pub told : Told
   pub faults : ℕ
 
--- a job of this layout and these limits, a view with all that the half has of it, and contents with all that it has of
--- them, where its device tells what it holds
+-- a job of this layout, which is copied as it is, and of these limits, a view with all that the half has of it, and contents with
+-- all that it has of them, where its device tells what it holds
 abbrev pub with_limits : Job → Source → Job
-with_limits job h = record job { shape = h.shape; config = h.config }
+with_limits job h = record job { shape = h.shape; copy = h.shape; config = h.config }
 
 abbrev pub with_source : View → Source → View
 with_source v h = record v {

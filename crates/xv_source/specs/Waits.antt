@@ -5,7 +5,7 @@ use Rattle.xv_base.specs.declared.limits.TheConstants.{SINGLE_FORMAT, GROUP_FORM
 use Rattle.xv_base.specs.declared.event.Phase.TheVariants.{Running}
 use Rattle.xv_base.specs.declared.event.Event.TheVariants.{Guest, Begin, Read, Advance, Release, Round, Page, Send, Deliver, Apply, Ack, Credit, Stun, Switch, Cancel}
 use Rattle.xv_base.specs.declared.answer.Why.TheVariants.{NotNow, NothingThere, Throttled, NoCredit}
-use Rattle.xv_model.specs.Job.{Job}
+use Rattle.xv_model.specs.Job.{Job, first_start}
 use Rattle.xv_model.specs.View.{View, Phase, is_running, is_live}
 use Rattle.xv_model.specs.Wait.{Event, Why, wait}
 use Rattle.xv_source.specs.Half.{Source}
@@ -14,12 +14,14 @@ use Rattle.xv_source.specs.Half.{Source}
 abbrev pub plain_job : Bool → Source → Job
 plain_job beside h = record {
   shape = h.shape;
+  copy = h.shape;
   format = if beside then GROUP_FORMAT else SINGLE_FORMAT;
   group = 1;
   config = record h.config { cancel = None };
   faults = [];
   init = [];
   traces = [];
+  start = first_start;
 }
 
 abbrev pub plain_view : Source → View
