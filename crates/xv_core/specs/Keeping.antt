@@ -43,7 +43,7 @@ guest_blocks job v d = map (λ k. content job v.history (cursor_unit job v d + k
 pub record HoldsGuest (m : Seen) : Type 0 where
   pub source : (unit : ℕ) → unit < unit_count (job_of m.job) → unit_content (told_contents m.source) unit ≡ source_content (job_of m.job) (view_of m) unit
   pub dest : (unit : ℕ) → unit < unit_count (job_of m.job) → is_written (view_of m) unit ≡ true → unit_content (told_contents m.dest) unit ≡ content (job_of m.job) (view_of m).history unit (dest_length (view_of m) unit)
-  pub regions : m.regions ≡ map (guest_blocks (job_of m.job) (view_of m)) (range_with_len 0 (length (job_of m.job).shape.disks))
+  pub regions : m.regions ≡ map (guest_blocks (job_of m.job) (view_of m)) (range_with_len 0 (length (job_of m.job).copy.disks))
   pub outbox : m.outbox ≡ map (message_content (job_of m.job) (view_of m).history) (view_of m).outbox.messages
   pub held : m.held ≡ map (message_content (job_of m.job) (view_of m).history) (view_of m).hold.held
   pub wires : (s : ℕ) → s < (job_of m.job).config.streams → (wire m s).gathered ++ (wire m s).told.transit ≡ all_spelled (frames_of (job_of m.job).format (guest_messages (job_of m.job) (view_of m) s))

@@ -111,9 +111,11 @@ seen_of s = record {
   back = on_back s.back;
 }
 
--- the parts are of this job: its layout, its limits and its format are theirs, and the wires have room for all credit
+-- the parts are of this job: its layout, what is copied of it, its limits and its format are theirs, and the wires have room for all
+-- credit
 pub record ArePartsOf (job : Job) (source : Source) (dest : Dest) (streams : Streamed) (back : Returned) : Type 0 where
   pub source_shape : source.shape ≡ job.shape
+  pub source_copy : source.shape ≡ job.copy
   pub source_limits : source.config ≡ job.config
   pub source_layout : source.told.shape ≡ job.shape
   pub dest_shape : dest.shape ≡ job.shape

@@ -6,7 +6,7 @@ use Rattle.xv_base.specs.declared.event.Phase.TheVariants.{Running}
 use Rattle.xv_device.specs.Told.{Told}
 use Rattle.xv_wire.specs.Told.{Told as WireTold}
 use Rattle.xv_frame.specs.Frame.{Message, Each, IsFrame, IsMessage}
-use Rattle.xv_model.specs.Job.{Job, IsGoodJob, unit_count}
+use Rattle.xv_model.specs.Job.{Job, IsGoodJob}
 use Rattle.xv_model.specs.Guest.{Ended}
 use Rattle.xv_model.specs.Step.{Entry}
 use Rattle.xv_streams.specs.Streamed.{Streamed, LaneSeen, no_lane, fresh_lane}
@@ -67,15 +67,16 @@ returns-none r e f g = record {
 }
 
 -- what a device for a job tells
-numbers-are : (job : Job) (told : Told) → IsDeviceFor job told → length told.writes ≡ unit_count job
+numbers-are : (job : Job) (told : Told) → IsDeviceFor job told → length told.writes ≡ units job.shape
 numbers-are job told d = d.sized.writes_each ∙ ap units d.layout
 
-contents-are : (job : Job) (told : Told) → IsDeviceFor job told → IfSome told.contents (λ contents. length contents ≡ unit_count job)
+contents-are : (job : Job) (told : Told) → IsDeviceFor job told → IfSome told.contents (λ contents. length contents ≡ units job.shape)
 contents-are job told d = subst (λ (s : Shape). IfSome told.contents (λ contents. length contents ≡ units s)) d.layout d.sized.contents_each
 
 parts-are : (job : Written) (source : Source) (dest : Dest) (streams : Streamed) (back : Returned) → AreFresh job source dest streams back → ArePartsOf (job_of job) source dest streams back
 parts-are job source dest streams back f = record {
   source_shape = ap (λ (h : Source). h.shape) f.source_half;
+  source_copy = ap (λ (h : Source). h.shape) f.source_half;
   source_limits = ap (λ (h : Source). h.config) f.source_half;
   source_layout = f.source_device.layout;
   dest_shape = ap (λ (h : Dest). h.shape) f.dest_half;

@@ -44,18 +44,18 @@ told-length None n some is = absurd (cc)
 told-length (Some xs) n some is = is
 
 -- the halves at the beginning are parts of the first view and of the first contents
-first-source : (job : Job) (h : Source) (told : Told) (faults : ℕ) → h ≡ fresh_source job.shape job.config told faults → with_source (first_view job) h ≡ first_view job
+first-source : (job : Job) (h : Source) (told : Told) (faults : ℕ) → h ≡ fresh_source job.copy job.config told faults → with_source (first_view job) h ≡ first_view job
 first-source job h told faults e = subst (λ (k : Source). with_source (first_view job) k ≡ first_view job) (sym e) refl
 
-first-dest : (job : Job) (h : Dest) (told : Told) (faults : ℕ) → h ≡ fresh_dest job.shape job.config.credit told faults → with_dest (first_view job) h ≡ first_view job
+first-dest : (job : Job) (h : Dest) (told : Told) (faults : ℕ) → h ≡ fresh_dest job.copy job.config.credit told faults → with_dest (first_view job) h ≡ first_view job
 first-dest job h told faults e = subst (λ (k : Dest). with_dest (first_view job) k ≡ first_view job) (sym e) refl
 
-first-source-bytes : (job : Job) (dest : List (List ℕ)) (h : Source) (told : Told) (faults : ℕ) → h ≡ fresh_source job.shape job.config told faults → unwrap_or told.contents [] ≡ first_source job → with_source_bytes (first_contents job dest) h ≡ first_contents job dest
+first-source-bytes : (job : Job) (dest : List (List ℕ)) (h : Source) (told : Told) (faults : ℕ) → h ≡ fresh_source job.copy job.config told faults → unwrap_or told.contents [] ≡ first_source job → with_source_bytes (first_contents job dest) h ≡ first_contents job dest
 first-source-bytes job dest h told faults e is =
     subst (λ (k : Source). with_source_bytes (first_contents job dest) k ≡ first_contents job dest) (sym e)
     (ap (λ (source : List (List ℕ)). record (first_contents job dest) { source = source }) is)
 
-first-dest-bytes : (job : Job) (h : Dest) (told : Told) (faults : ℕ) → h ≡ fresh_dest job.shape job.config.credit told faults → with_dest_bytes (first_contents job (unwrap_or told.contents [])) h ≡ first_contents job (unwrap_or told.contents [])
+first-dest-bytes : (job : Job) (h : Dest) (told : Told) (faults : ℕ) → h ≡ fresh_dest job.copy job.config.credit told faults → with_dest_bytes (first_contents job (unwrap_or told.contents [])) h ≡ first_contents job (unwrap_or told.contents [])
 first-dest-bytes job h told faults e = subst (λ (k : Dest). with_dest_bytes (first_contents job (unwrap_or told.contents [])) k ≡ first_contents job (unwrap_or told.contents [])) (sym e) refl
 
 -- how a migration begins
@@ -66,8 +66,8 @@ pub record Begins (s : State) (source dest : Told) (source_faults dest_faults : 
   pub phase : s.phase ≡ Running
   pub stun : s.stun ≡ None
   pub reads : s.reads ≡ []
-  pub source_half : s.source ≡ fresh_source (job_of s.job).shape (job_of s.job).config source source_faults
-  pub dest_half : s.dest ≡ fresh_dest (job_of s.job).shape (job_of s.job).config.credit dest dest_faults
+  pub source_half : s.source ≡ fresh_source (job_of s.job).copy (job_of s.job).config source source_faults
+  pub dest_half : s.dest ≡ fresh_dest (job_of s.job).copy (job_of s.job).config.credit dest dest_faults
   pub empty : AreEmpty s.streams.lanes
   pub no_counts : s.back.counts ≡ []
   pub parts : ArePartsOf (job_of s.job) s.source s.dest s.streams s.back
@@ -90,7 +90,7 @@ first-held s source dest m n b both =
     let streams : replicate job.config.streams [] ≡ contents_on s.streams.lanes = ap (λ (k : ℕ). replicate {A = List (List (List ℕ))} k []) (sym b.parts.each_stream) ∙ no-contents s.streams.lanes b.empty in
     let same : contents_of s ≡ first_contents job there = joined-contents s (first_contents job there) streams (sym b.reads)
     (first-source-bytes job there s.source source m b.source_half (told-is source.contents [] (first_source job) source_tells b.source_told)) (first-dest-bytes job s.dest dest n b.dest_half) in
-    subst (HoldsContents job (first_view job)) (sym same) (contents-first job there (told-length dest.contents (unit_count job) dest_tells b.dest_told))
+    subst (HoldsContents job (first_view job)) (sym same) (contents-first job there b.good (told-length dest.contents (unit_count job) dest_tells b.dest_told))
 
 pub starts : (s : State) (source dest : Told) (m n : ℕ) → Begins s source dest m n → IsRunning s
 starts s source dest m n b =

@@ -81,6 +81,7 @@ pub record IsAfter (s : State) (e : Event) (a : Turn) (half : Source) (at_phase 
 parts-with : (s : State) (half : Source) (w : View) → IsRunning s → IsSourceOf (job_of s.job) w half → half.told.shape ≡ s.source.told.shape → ArePartsOf (job_of s.job) half s.dest s.streams s.back
 parts-with s half w r of layout = record {
   source_shape = ap (λ (j : Job). j.shape) of.limits;
+  source_copy = ap (λ (j : Job). j.copy) of.limits;
   source_limits = ap (λ (j : Job). j.config) of.limits;
   source_layout = layout ∙ r.parts.source_layout;
   dest_shape = r.parts.dest_shape;

@@ -75,6 +75,7 @@ happened s e a h source dest bytes w r carried x =
       journal = refl;
       parts = record {
         source_shape = ap (λ (j : Job). j.shape) x.of_source.limits;
+        source_copy = ap (λ (j : Job). j.copy) x.of_source.limits;
         source_limits = ap (λ (j : Job). j.config) x.of_source.limits;
         source_layout = x.source_layout ∙ r.parts.source_layout;
         dest_shape = x.of_dest.shape;

@@ -87,7 +87,7 @@ ready-by s d w op k first next =
       next = own;
       writes = subst (λ (o : UnitOp). is_some o.write ≡ true) own waits.writes;
       front_of = subst (λ (o : UnitOp). writes_to o (front (get_or s.source.disks d no_disk)).unit.0 ≡ true) own waits.to_write;
-      block = subst (λ (x : Shape). is_page x op.unit.0 ≡ false) shape (subst (λ (o : UnitOp). is_page job.shape o.unit.0 ≡ false) own waits.block);
+      block = subst (λ (x : Shape). is_page x op.unit.0 ≡ false) shape (subst (λ (o : UnitOp). is_page job.copy o.unit.0 ≡ false) own waits.block);
       legal = subst (λ (x : Shape). IsLegal x op) shape (subst (λ (o : UnitOp). IsLegal job.shape o) own waits.legal);
     }
 

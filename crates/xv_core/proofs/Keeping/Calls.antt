@@ -137,8 +137,8 @@ pub record WaitsInFront (s : State) (d : ℕ) : Type 0 where
   pub to_write : writes_to (front_operation (job_of s.job) (view s) d) (front (get_or s.source.disks d no_disk)).unit.0 ≡ true
   pub writes : is_some (front_operation (job_of s.job) (view s) d).write ≡ true
   pub unit : (front_operation (job_of s.job) (view s) d).unit.0 ≡ (front (get_or s.source.disks d no_disk)).unit.0
-  pub block : is_page (job_of s.job).shape (front_operation (job_of s.job) (view s) d).unit.0 ≡ false
-  pub of_disk : disk_of (job_of s.job).shape (front_operation (job_of s.job) (view s) d).unit.0 ≡ d
+  pub block : is_page (job_of s.job).copy (front_operation (job_of s.job) (view s) d).unit.0 ≡ false
+  pub of_disk : disk_of (job_of s.job).copy (front_operation (job_of s.job) (view s) d).unit.0 ≡ d
   pub legal : IsLegal (job_of s.job).shape (front_operation (job_of s.job) (view s) d)
   pub not_still : (is_stunned (view s).phase || is_switched (view s).phase) ≡ false
 
@@ -147,8 +147,8 @@ record FrontOf (job : Job) (v : View) (d : ℕ) (ds : List Disk) : Type 0 where
   more : ended v.history (front (get_or ds d no_disk)).guest.0 < length (trace job (front (get_or ds d no_disk)).guest.0)
   operation : front_operation job v d ≡ next_operation job v (front (get_or ds d no_disk)).guest.0
   to_write : writes_to (front_operation job v d) (front (get_or ds d no_disk)).unit.0 ≡ true
-  block : is_page job.shape (front (get_or ds d no_disk)).unit.0 ≡ false
-  of_disk : disk_of job.shape (front (get_or ds d no_disk)).unit.0 ≡ d
+  block : is_page job.copy (front (get_or ds d no_disk)).unit.0 ≡ false
+  of_disk : disk_of job.copy (front (get_or ds d no_disk)).unit.0 ≡ d
 
 front-of : (job : Job) (v : View) (d : ℕ) → IsViewOf job v → 0 < length (disk v d).queue → FrontOf job v d v.disks
 front-of job v d inv some =
@@ -185,12 +185,12 @@ waits-in-front s d r some =
       to_write = is.to_write;
       writes = write.0;
       unit = unit;
-      block = ap (is_page job.shape) unit ∙ is.block;
-      of_disk = ap (disk_of job.shape) unit ∙ is.of_disk;
+      block = ap (is_page job.copy) unit ∙ is.block;
+      of_disk = ap (disk_of job.copy) unit ∙ is.of_disk;
       legal = subst (IsLegal job.shape) (sym is.operation) (next-legal s w.guest.0 r is.more);
       not_still = still-none job v d inv here;
     }
 
 -- the disks and the guests of the job are those of the source
-pub disk-there : (s : State) (d : ℕ) → IsRunning s → d < length (job_of s.job).shape.disks → d < length s.source.disks
+pub disk-there : (s : State) (d : ℕ) → IsRunning s → d < length (job_of s.job).copy.disks → d < length s.source.disks
 disk-there s d r there = omega (arith, there, (view-holds s r).lists.disks, ap (λ (ds : List Disk). length ds) (shows s r).disks)

@@ -104,7 +104,7 @@ pub bound-small : (job : Job) → IsGoodJob job → bound job ≤ 16777296
 bound-small job good =
     let units = (good_within job.shape good.machine).few_units in
     let most : 2 ^ 20 ≡ 1048576 = refl in
-    omega (arith, good.operations)
+    omega (arith, good.operations, good.same_units)
 
 pub journal-short : (s : State) → IsRunning s → length s.journal ≤ bound (job_of s.job)
 journal-short s r = omega (arith, run-within (job_of s.job) s.journal r.good r.fitting r.is_run)
@@ -122,7 +122,7 @@ rounds-within job v good inv =
     let history = waiting-fits job v inv in
     elim good.formats [
       | inl one ↦ omega (arith, inv.rounds.limited one.0, good.rounds.1)
-      | inr two ↦ omega (arith, inv.rounds.limited_beside two.0, good.rounds.1, good.operations, history)
+      | inr two ↦ omega (arith, inv.rounds.limited_beside two.0, good.rounds.1, good.operations, history, good.same_units)
     ]
 
 pub few-rounds : (s : State) → IsRunning s → s.source.rounds < 2 ^ 32 - 1

@@ -24,12 +24,13 @@ source-part s v e = subst (λ (w : View). with_source w s.source ≡ w) e refl
 pub dest-part : (s : State) (v : View) → shown s v ≡ v → with_dest v s.dest ≡ v
 dest-part s v e = subst (λ (w : View). with_dest w s.dest ≡ w) e refl
 
-limits-from : (job : Job) (shape : Shape) (config : Config) → shape ≡ job.shape → config ≡ job.config → record job { shape = shape; config = config } ≡ job
-limits-from job shape config e f = rw (e, f) refl
+limits-from : (job : Job) (shape : Shape) (config : Config) → shape ≡ job.shape → shape ≡ job.copy → config ≡ job.config → record job { shape = shape; copy = shape; config = config } ≡ job
+limits-from job shape config e f g =
+    ap (λ (s : Shape). record job { shape = s; copy = shape; config = config }) e ∙ ap (λ (s : Shape). record job { copy = s; config = config }) f ∙ ap (λ (c : Config). record job { config = c }) g
 
 pub is_source_of : (s : State) → IsRunning s → IsSourceOf (job_of s.job) (view s) s.source
 is_source_of s r = record {
-  limits = limits-from (job_of s.job) s.source.shape s.source.config r.parts.source_shape r.parts.source_limits;
+  limits = limits-from (job_of s.job) s.source.shape s.source.config r.parts.source_shape r.parts.source_copy r.parts.source_limits;
   part = source-part s (view s) r.shows;
 }
 

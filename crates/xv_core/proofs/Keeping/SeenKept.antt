@@ -72,9 +72,9 @@ dest-holds job v c h unit lt written = by (is_switched v.phase) refl
         rw e (h.dest_is unit lt e (ltb-true 0 (number v.hold.applied unit) some))
 
 -- the blocks read of each region
-regions-hold : (job : Job) (v : View) (c : Contents) → length v.disks ≡ length job.shape.disks → HoldsContents job v c → c.regions ≡ map (guest_blocks job v) (range_with_len 0 (length job.shape.disks))
+regions-hold : (job : Job) (v : View) (c : Contents) → length v.disks ≡ length job.copy.disks → HoldsContents job v c → c.regions ≡ map (guest_blocks job v) (range_with_len 0 (length job.copy.disks))
 regions-hold job v c disks h =
-    fill_by_all (guest_blocks job v) c.regions (length job.shape.disks) [] (h.regions_length ∙ disks) (λ d lt.
+    fill_by_all (guest_blocks job v) c.regions (length job.copy.disks) [] (h.regions_length ∙ disks) (λ d lt.
     let there : d < length v.disks = omega (arith, disks) in
     fill_by_all (λ (k : ℕ). content job v.history (cursor_unit job v d + k) (length v.history)) (region_content c d) (disk v d).got [] (h.region_length d there) (λ k got. h.region_is d k there got))
 

@@ -98,6 +98,7 @@ parts-of s m w r alike source dest =
     let job = job_of s.job in
     record {
       source_shape = ap (λ (j : Job). j.shape) source.limits;
+      source_copy = ap (λ (j : Job). j.copy) source.limits;
       source_limits = ap (λ (j : Job). j.config) source.limits;
       source_layout = alike.source_layout ∙ r.parts.source_layout;
       dest_shape = dest.shape;

@@ -100,6 +100,7 @@ module _ (s : State) (x : Streamed) (y : Returned) (same : x ≡ record s.stream
   parts-same : ArePartsOf (job_of s.job) s.source s.dest s.streams s.back → ArePartsOf (job_of s.job) s.source s.dest x y
   parts-same p = record {
     source_shape = p.source_shape;
+    source_copy = p.source_copy;
     source_limits = p.source_limits;
     source_layout = p.source_layout;
     dest_shape = p.dest_shape;

@@ -72,7 +72,7 @@ guest-more : (job : Job) (v : View) (g : ℕ) (a : Aim) → OneMore v (guest_by 
 guest-more job v g Alone = omega arith
 guest-more job v g Store = omega arith
 guest-more job v g Join =
-    let d = disk_of job.shape (next_operation job v g).unit.0 in
+    let d = disk_of job.copy (next_operation job v g).unit.0 in
     omega (arith, same-behind v.disks d (joined (disk v d) g (next_operation job v g).unit.0) refl)
 guest-more job v g Mirror = omega (arith, made-more v.outbox (next_operation job v g).unit.0 (length v.history + 1))
 
@@ -130,7 +130,7 @@ pub few-behind : (job : Job) (v : View) → IsGoodJob job → IsViewOf job v →
 few-behind job v good inv =
     let units = (good_within job.shape good.machine).few_units in
     let most : 2 ^ 20 ≡ 1048576 = refl in
-    omega (arith, behind-le job.shape.disks v.disks inv.lists.disks inv.regions.cursor_fits)
+    omega (arith, behind-le job.copy.disks v.disks inv.lists.disks inv.regions.cursor_fits, good.same_units)
 
 pub few-issued : (s : State) → IsRunning s → sum (view s).outbox.issued ≤ 17825872
 few-issued s r =

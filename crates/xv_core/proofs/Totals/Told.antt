@@ -139,7 +139,7 @@ count-le-sum ns = sum_by-le-sum_by (λ (k : ℕ). if nat_lt 0 k then 1 else 0) (
 -- the report
 totals-from : (job : Job) (v : View) (n : ℕ) (phase : Phase) (stun : Option ℕ) (history faults journal copied rounds messages mirrors applied credit : ℕ) →
     phase ≡ v.phase → stun ≡ v.stun → history ≡ length v.history → faults ≡ count_by (λ (e : Ended). not (is_done e.outcome)) v.history → journal ≡ n → copied ≡ behind v.disks → rounds ≡ v.rounds → messages ≡ sum v.outbox.issued →
-    mirrors ≡ sum (drop job.shape.pages v.outbox.issued) - count_by (λ (k : ℕ). nat_lt 0 k) (drop job.shape.pages v.outbox.issued) → applied ≡ sum v.hold.applied → credit ≡ v.credit →
+    mirrors ≡ sum (drop job.copy.pages v.outbox.issued) - count_by (λ (k : ℕ). nat_lt 0 k) (drop job.copy.pages v.outbox.issued) → applied ≡ sum v.hold.applied → credit ≡ v.credit →
     record { phase = phase; history = history; faulted = faults; journal = journal; stun = stun; copied = copied; rounds = rounds; messages = messages; mirrors = mirrors; applied = applied; credit = credit } ≡ totals job v n
 totals-from job v n phase stun history faults journal copied rounds messages mirrors applied credit a b c d e f g h i j k = rw (a, b, c, d, e, f, g, h, i, j, k) refl
 
