@@ -51,7 +51,7 @@ abbrev guests_of : Job → List Event
 guests_of job = for_each_below (guest_count job) (λ g. Guest (record { 0 = g }) ∷ [])
 
 abbrev copies_of : Job → List Event
-copies_of job = for_each_below (length job.shape.disks) copy_events
+copies_of job = for_each_below (length job.copy.disks) copy_events
 
 abbrev sends_of : ℕ → List Event
 sends_of streams = for_each_below streams (λ s. Send s ∷ [])
@@ -126,19 +126,19 @@ behind-guests job i guests same from =
     ap (λ (l : List Event). get_or l i Cancel) (in-parts job)
     ∙ get_or-append_right (guests_of job) (copies_of job ++ later_events job.config.streams) guests i Cancel (length-each (guest_count job) (λ g. Guest (record { 0 = g })) ∙ sym same) from
 
-pub is-copy : (job : Job) (i guests disks : ℕ) → guests ≡ guest_count job → disks ≡ length job.shape.disks → guests ≤ i → i < guests + 4 * disks → get_or (copy_events ((i - guests) / 4)) ((i - guests) % 4) Cancel ≡ get_or (driver_events job) i Cancel
+pub is-copy : (job : Job) (i guests disks : ℕ) → guests ≡ guest_count job → disks ≡ length job.copy.disks → guests ≤ i → i < guests + 4 * disks → get_or (copy_events ((i - guests) / 4)) ((i - guests) % 4) Cancel ≡ get_or (driver_events job) i Cancel
 is-copy job i guests disks same each from below =
-    let there : i - guests < 4 * length job.shape.disks = omega arith in
-    let within : i - guests < length (copies_of job) = omega (arith, there, length-copies (length job.shape.disks)) in
+    let there : i - guests < 4 * length job.copy.disks = omega arith in
+    let within : i - guests < length (copies_of job) = omega (arith, there, length-copies (length job.copy.disks)) in
     sym (
     behind-guests job i guests same from
     ∙ get_or_append_left (copies_of job) (later_events job.config.streams) Cancel (i - guests) within
-    ∙ at-copies (length job.shape.disks) (i - guests) there
+    ∙ at-copies (length job.copy.disks) (i - guests) there
     )
 
-pub is-later : (job : Job) (i guests disks streams : ℕ) → guests ≡ guest_count job → disks ≡ length job.shape.disks → streams ≡ job.config.streams → guests + 4 * disks ≤ i → get_or (later_events streams) (i - (guests + 4 * disks)) Cancel ≡ get_or (driver_events job) i Cancel
+pub is-later : (job : Job) (i guests disks streams : ℕ) → guests ≡ guest_count job → disks ≡ length job.copy.disks → streams ≡ job.config.streams → guests + 4 * disks ≤ i → get_or (later_events streams) (i - (guests + 4 * disks)) Cancel ≡ get_or (driver_events job) i Cancel
 is-later job i guests disks streams same each all from =
-    let count : length (copies_of job) ≡ 4 * disks = length-copies (length job.shape.disks) ∙ ap (λ (d : ℕ). 4 * d) (sym each) in
+    let count : length (copies_of job) ≡ 4 * disks = length-copies (length job.copy.disks) ∙ ap (λ (d : ℕ). 4 * d) (sym each) in
     let rest : i - guests - 4 * disks ≡ i - (guests + 4 * disks) = omega arith in
     sym (
     behind-guests job i guests same (omega arith)
@@ -157,7 +157,7 @@ length-later streams =
     three-lengths : (s t : List Event) → length (round_events ++ (s ++ (t ++ end_events))) ≡ 2 + (length s + (length t + 6))
     three-lengths s t = omega (arith, length-append s (t ++ end_events), length-append t end_events)
 
-length-listed : (job : Job) → length (driver_events job) ≡ guest_count job + 4 * length job.shape.disks + 2 * job.config.streams + 8
+length-listed : (job : Job) → length (driver_events job) ≡ guest_count job + 4 * length job.copy.disks + 2 * job.config.streams + 8
 length-listed job =
     let parts = ap (λ (l : List Event). length l) (in-parts job) in
     omega (
@@ -166,11 +166,11 @@ length-listed job =
       length-append (guests_of job) (copies_of job ++ later_events job.config.streams),
       length-append (copies_of job) (later_events job.config.streams),
       length-each (guest_count job) (λ g. Guest (record { 0 = g })),
-      length-copies (length job.shape.disks),
+      length-copies (length job.copy.disks),
       length-later job.config.streams,
     )
 
-pub counted : (job : Job) (guests disks streams : ℕ) → guests ≡ guest_count job → disks ≡ length job.shape.disks → streams ≡ job.config.streams → guests + 4 * disks + 2 + 2 * streams + 6 ≡ length (driver_events job)
+pub counted : (job : Job) (guests disks streams : ℕ) → guests ≡ guest_count job → disks ≡ length job.copy.disks → streams ≡ job.config.streams → guests + 4 * disks + 2 + 2 * streams + 6 ≡ length (driver_events job)
 counted job guests disks streams same each all = omega (arith, length-listed job)
 
 -- the numbers of a job that is the same

@@ -28,7 +28,7 @@ later_events streams =
 -- a job has so many guests, disks and streams, and then so many events
 pub record AreNumbersOf (job : Job) (guests disks streams : ℕ) : Type 0 where
   pub each_guest : guests ≡ guest_count job
-  pub each_disk : disks ≡ length job.shape.disks
+  pub each_disk : disks ≡ length job.copy.disks
   pub each_stream : streams ≡ job.config.streams
 
 abbrev pub event_total : ℕ → ℕ → ℕ → ℕ

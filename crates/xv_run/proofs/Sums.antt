@@ -53,7 +53,7 @@ once make g rest own none a (suc n) from to = elim (cases_eq a g) [
 -- each event that fits the job is one worker's
 module _ (job : Job) where
   abbrev disks : ℕ
-  disks = length job.shape.disks
+  disks = length job.copy.disks
 
   abbrev streams : ℕ
   streams = job.config.streams

@@ -49,12 +49,12 @@ abbrev pub to_pager : Job → List Job1
 to_pager job = Pager ∷ to_senders job
 
 abbrev pub to_copiers : Job → List Job1
-to_copiers job = map Copier (range_with_len 0 (length job.shape.disks)) ++ to_pager job
+to_copiers job = map Copier (range_with_len 0 (length job.copy.disks)) ++ to_pager job
 
 pub workers-distinct : (job : Job) → IsDistinct is_worker (workers job)
 unfolding IsDistinct
 workers-distinct job =
-    let disks = length job.shape.disks in
+    let disks = length job.copy.disks in
     let streams = job.config.streams in
     let receivers : IsDistinct is_worker (to_receivers job) = of-kind Receiver (λ m n lt. differ m n lt) 0 streams to_applier (λ k. (refl, tt)) (tt, tt) in
     let senders : IsDistinct is_worker (to_senders job) = of-kind Sender (λ m n lt. differ m n lt) 0 streams (to_receivers job) (λ k. others (Sender k) Receiver (λ n. refl) 0 streams to_applier (refl, tt)) receivers in

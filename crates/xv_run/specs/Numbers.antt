@@ -39,7 +39,7 @@ counted journal worker = record { worker = worker; steps = steps_of worker journ
 abbrev pub workers : Job → List Job1
 workers job =
     map Guest (range_with_len 0 (guest_count job))
-    ++ (map Copier (range_with_len 0 (length job.shape.disks))
+    ++ (map Copier (range_with_len 0 (length job.copy.disks))
     ++ (Pager ∷ []
     ++ (map Sender (range_with_len 0 job.config.streams)
     ++ (map Receiver (range_with_len 0 job.config.streams)

@@ -1,10 +1,12 @@
 -- No text of a script begins that of another, so no input does.
-use Rattle.std.proofs.Common.{◌≡◌, ℕ, ◌<◌, ◌^◌, true, List, [], ◌∷◌, ◌++◌, map, get_or, drop, Option, Some, None, refl, sym, ap, ◌∙◌, subst, arith, append_assoc, append-nil}
+use Rattle.std.proofs.Common.{◌≡◌, ℕ, suc, ◌<◌, ◌≤◌, ◌^◌, true, List, [], ◌∷◌, ◌++◌, length, map, get_or, drop, Option, Some, None, refl, sym, ap, ◌∙◌, subst, arith, append_assoc, append-nil}
 use Rattle.std.specs.List.{list_all}
 use Rattle.std.proofs.lemmas.Bool.{and_parts}
 use Rattle.std.proofs.lemmas.List.{map-append, append_cancel_left}
 use Rattle.xv_text.specs.Lines.{lines_of}
 use Rattle.xv_text.proofs.Apart.{lines_of-text, lines_of-text_of}
+use Rattle.xv_base.specs.declared.unit.DiskShape.{DiskShape}
+use Rattle.xv_base.specs.Units.{blocks, blocks_of}
 use Rattle.xv_model.specs.Job.{Job, IsGoodJob}
 use Rattle.xv_job.specs.Written.{Written, job_of, IsGoodWritten}
 use Rattle.xv_job.specs.JobText.{job_text}
@@ -17,10 +19,15 @@ use Rattle.xv_script.specs.declared.word.Word.TheVariants.{Stop as StopWord}
 use Rattle.xv_script.proofs.Sayings.{AreSmall, word_in, number_in, line_back, line_there, line_fields}
 use Rattle.xv_script.proofs.Scripts.{said_well, script_lines, text_of-script_lines, script_lines_plain}
 
+-- disks that each have a block are no more than their blocks
+disks_within : (ds : List DiskShape) → ((d : ℕ) → d < length ds → 1 ≤ blocks ds d) → length ds ≤ blocks_of ds
+disks_within [] some = omega arith
+disks_within (d ∷ ds) some = omega (arith, some 0 (omega arith), disks_within ds (λ k lt. some (suc k) (omega (arith, lt))))
+
 pub small_counts : (job : Job) → IsGoodJob job → AreSmall (counts_of job)
 small_counts job good =
     let sizes = sizes_of job.shape good.machine in
-    record { guests = omega (arith, good.guests.1); disks = omega (arith, sizes.few_disks); streams = omega (arith, good.streams.1); units = omega (arith, sizes.few_units) }
+    record { guests = omega (arith, good.guests.1); disks = omega (arith, disks_within job.copy.disks good.some_blocks, good.same_units, sizes.few_units); streams = omega (arith, good.streams.1); units = omega (arith, good.same_units, sizes.few_units) }
 
 -- what each line of a script says, and the last one nothing
 abbrev said : List Line → List (Option Line)

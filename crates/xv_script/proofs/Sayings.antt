@@ -150,10 +150,10 @@ said_in job (Some l) = is_in job l
 
 pub said_in-job : (job : Job) (word : Word) (n : ℕ) → n < count_of (counts_of job) (named word) → said_in job (line_said word n) ≡ true
 said_in-job job GuestWord n h = lt-ltb n (guest_count job) h
-said_in-job job BeginWord n h = lt-ltb n (length job.shape.disks) h
-said_in-job job ReadWord n h = lt-ltb n (length job.shape.disks) h
-said_in-job job AdvanceWord n h = lt-ltb n (length job.shape.disks) h
-said_in-job job ReleaseWord n h = lt-ltb n (length job.shape.disks) h
+said_in-job job BeginWord n h = lt-ltb n (length job.copy.disks) h
+said_in-job job ReadWord n h = lt-ltb n (length job.copy.disks) h
+said_in-job job AdvanceWord n h = lt-ltb n (length job.copy.disks) h
+said_in-job job ReleaseWord n h = lt-ltb n (length job.copy.disks) h
 said_in-job job RoundWord n h = refl
 said_in-job job PageWord n h = refl
 said_in-job job SendWord n h = lt-ltb n job.config.streams h
@@ -233,10 +233,10 @@ line_back (Ask unit) = refl
 
 event_there : (job : Job) (event : Event) → is_in job (Step event) ≡ true → event_number event < count_of (counts_of job) (named (event_word event))
 event_there job (Guest x) h = ltb-true x.0 (guest_count job) h
-event_there job (Begin x) h = ltb-true x (length job.shape.disks) h
-event_there job (Read x) h = ltb-true x (length job.shape.disks) h
-event_there job (Advance x) h = ltb-true x (length job.shape.disks) h
-event_there job (Release x) h = ltb-true x (length job.shape.disks) h
+event_there job (Begin x) h = ltb-true x (length job.copy.disks) h
+event_there job (Read x) h = ltb-true x (length job.copy.disks) h
+event_there job (Advance x) h = ltb-true x (length job.copy.disks) h
+event_there job (Release x) h = ltb-true x (length job.copy.disks) h
 event_there job Round h = omega arith
 event_there job Page h = omega arith
 event_there job (Send x) h = ltb-true x job.config.streams h

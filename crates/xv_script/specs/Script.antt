@@ -28,7 +28,7 @@ first_script = record { lines = []; stopped = false }
 
 -- how many guests, disks, streams and units a job has
 abbrev pub counts_of : Job → Counts
-counts_of job = record { guests = guest_count job; disks = length job.shape.disks; streams = job.config.streams; units = unit_count job }
+counts_of job = record { guests = guest_count job; disks = length job.copy.disks; streams = job.config.streams; units = unit_count job }
 
 -- how many there are of what a word names
 abbrev pub count_of : Counts → Named → ℕ

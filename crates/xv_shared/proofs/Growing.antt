@@ -117,7 +117,7 @@ none-applied : (n : ℕ) → sum (replicate n 0) ≡ 0
 none-applied n = omega (arith, sum_by-replicate (λ (k : ℕ). k) n 0)
 
 first : (job : Job) (journal : List Entry) → journal ≡ [] → record { history = length (run job journal).history; copied = copied (run job journal); applied = applied (run job journal); journal = length journal } ≡ no_numbers
-first job journal none = subst (λ (j : List Entry). record { history = length (run job j).history; copied = copied (run job j); applied = applied (run job j); journal = length j } ≡ no_numbers) (sym none) (same-numbers _ no_numbers refl (no-cursors job.shape.disks) (none-applied (unit_count job)) refl)
+first job journal none = subst (λ (j : List Entry). record { history = length (run job j).history; copied = copied (run job j); applied = applied (run job j); journal = length j } ≡ no_numbers) (sym none) (same-numbers _ no_numbers refl (no-cursors job.copy.disks) (none-applied (unit_count job)) refl)
 
 pub first-numbers : (m : Seen) → m.journal ≡ [] → numbers_of m ≡ no_numbers
 first-numbers m none = first (job_of m.job) m.journal none

@@ -32,7 +32,7 @@ abbrev guests : (D Q F R : Type 0) → Job → List (Pass D Q F R)
 guests D Q F R job = each_below (guest_count job) (fresh_guest job)
 
 abbrev copiers : (D Q F R : Type 0) → Job → List (Pass D Q F R)
-copiers D Q F R job = each_below (length job.shape.disks) (λ k. fresh (Copier k))
+copiers D Q F R job = each_below (length job.copy.disks) (λ k. fresh (Copier k))
 
 abbrev pagers : (D Q F R : Type 0) → List (Pass D Q F R)
 pagers D Q F R = fresh Pager ∷ []
@@ -58,7 +58,7 @@ guests-of : (D Q F R : Type 0) (job : Job) → count_by (is_guest {D = D} {Q = Q
 guests-of D Q F R job =
     six-counts is_guest (guests D Q F R job) (copiers D Q F R job) (pagers D Q F R) (senders D Q F R job) (receivers D Q F R job) (appliers D Q F R) (guest_count job) 0 0 0 0 0
     (all-pass {D = D} {Q = Q} {F = F} {R = R} is_guest (guest_count job) (fresh_guest job) (λ k. refl))
-    (none-pass {D = D} {Q = Q} {F = F} {R = R} is_guest (length job.shape.disks) (λ k. fresh (Copier k)) (λ k. refl))
+    (none-pass {D = D} {Q = Q} {F = F} {R = R} is_guest (length job.copy.disks) (λ k. fresh (Copier k)) (λ k. refl))
     refl
     (none-pass {D = D} {Q = Q} {F = F} {R = R} is_guest job.config.streams (λ k. fresh (Sender k)) (λ k. refl))
     (none-pass {D = D} {Q = Q} {F = F} {R = R} is_guest job.config.streams (λ k. fresh (Receiver k)) (λ k. refl))
@@ -67,11 +67,11 @@ guests-of D Q F R job =
 abbrev others : {D Q F R : Type 0} → List (Pass D Q F R) → ℕ
 others passes = count_by (λ p. not (is_guest p)) passes
 
-others-of : (D Q F R : Type 0) (job : Job) → others {D = D} {Q = Q} {F = F} {R = R} (first_crew job) ≡ 0 + (length job.shape.disks + (1 + (job.config.streams + (job.config.streams + 1))))
+others-of : (D Q F R : Type 0) (job : Job) → others {D = D} {Q = Q} {F = F} {R = R} (first_crew job) ≡ 0 + (length job.copy.disks + (1 + (job.config.streams + (job.config.streams + 1))))
 others-of D Q F R job =
-    six-counts (λ (p : Pass D Q F R). not (is_guest p)) (guests D Q F R job) (copiers D Q F R job) (pagers D Q F R) (senders D Q F R job) (receivers D Q F R job) (appliers D Q F R) 0 (length job.shape.disks) 1 job.config.streams job.config.streams 1
+    six-counts (λ (p : Pass D Q F R). not (is_guest p)) (guests D Q F R job) (copiers D Q F R job) (pagers D Q F R) (senders D Q F R job) (receivers D Q F R job) (appliers D Q F R) 0 (length job.copy.disks) 1 job.config.streams job.config.streams 1
     (none-pass {D = D} {Q = Q} {F = F} {R = R} (λ (p : Pass D Q F R). not (is_guest p)) (guest_count job) (fresh_guest job) (λ k. refl))
-    (all-pass {D = D} {Q = Q} {F = F} {R = R} (λ (p : Pass D Q F R). not (is_guest p)) (length job.shape.disks) (λ k. fresh (Copier k)) (λ k. refl))
+    (all-pass {D = D} {Q = Q} {F = F} {R = R} (λ (p : Pass D Q F R). not (is_guest p)) (length job.copy.disks) (λ k. fresh (Copier k)) (λ k. refl))
     refl
     (all-pass {D = D} {Q = Q} {F = F} {R = R} (λ (p : Pass D Q F R). not (is_guest p)) job.config.streams (λ k. fresh (Sender k)) (λ k. refl))
     (all-pass {D = D} {Q = Q} {F = F} {R = R} (λ (p : Pass D Q F R). not (is_guest p)) job.config.streams (λ k. fresh (Receiver k)) (λ k. refl))
@@ -94,7 +94,7 @@ put-together {A = A} p0 p1 p2 p3 p4 p5 p6 g c w s v a e0 e1 e2 e3 e4 e5 e6 =
     let f6 : p6 ≡ g ++ ((((c ++ w) ++ s) ++ v) ++ a) = e6 ∙ (ap (λ (x : List A). x ++ a) f5 ∙ append_assoc g (((c ++ w) ++ s) ++ v) a) in
     f6 ∙ ap (λ (x : List A). g ++ x) (append_assoc ((c ++ w) ++ s) v a ∙ (append_assoc (c ++ w) s (v ++ a) ∙ append_assoc c w (s ++ (v ++ a))))
 
-pub crew-of : {D Q F R : Type 0} (job : Job) (disks streams : ℕ) (passes : List (Pass D Q F R)) → disks ≡ length job.shape.disks → streams ≡ job.config.streams →
+pub crew-of : {D Q F R : Type 0} (job : Job) (disks streams : ℕ) (passes : List (Pass D Q F R)) → disks ≡ length job.copy.disks → streams ≡ job.config.streams →
     passes ≡ each_below (guest_count job) (fresh_guest job) ++ (each_below disks (λ k. fresh (Copier k)) ++ (fresh Pager ∷ [] ++ (each_below streams (λ k. fresh (Sender k)) ++ (each_below streams (λ k. fresh (Receiver k)) ++ fresh Applier ∷ [])))) →
     passes ≡ first_crew job
 crew-of job disks streams passes hd hs e =

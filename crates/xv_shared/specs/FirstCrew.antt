@@ -28,7 +28,7 @@ fresh worker = Other (record { worker = worker; calls = 0; steps = 0 })
 abbrev pub first_crew : {D Q F R : Type 0} → Job → List (Pass D Q F R)
 first_crew job =
     each_below (guest_count job) (fresh_guest job)
-    ++ (each_below (length job.shape.disks) (λ disk. fresh (Copier disk))
+    ++ (each_below (length job.copy.disks) (λ disk. fresh (Copier disk))
     ++ (fresh Pager ∷ []
     ++ (each_below job.config.streams (λ stream. fresh (Sender stream))
     ++ (each_below job.config.streams (λ stream. fresh (Receiver stream))
@@ -36,11 +36,11 @@ first_crew job =
 
 -- how many of them are no guests
 abbrev pub other_count : Job → ℕ
-other_count job = length job.shape.disks + 2 * job.config.streams + 2
+other_count job = length job.copy.disks + 2 * job.config.streams + 2
 
 -- numbers of a job: the bound of its journal, its guests, disks and streams
 pub record AreOfJob (job : Job) (limit guests disks streams : ℕ) : Type 0 where
   pub limit_is : limit ≡ bound job
   pub guests_are : guests ≡ guest_count job
-  pub disks_are : disks ≡ length job.shape.disks
+  pub disks_are : disks ≡ length job.copy.disks
   pub streams_are : streams ≡ job.config.streams
