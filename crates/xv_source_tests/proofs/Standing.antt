@@ -9,7 +9,7 @@ use Rattle.xv_base.specs.declared.limits.Config.{Config}
 use Rattle.xv_base.specs.declared.event.Event.TheVariants.{Guest, Begin, Read, Advance}
 use Rattle.xv_device.specs.Device.{DeviceCall, NoCall, ReadRange, PatchRange, WriteUnit, FlushAll, Plan, Calls, Counted, writes_after, calls_after, is_planned}
 use Rattle.xv_device.specs.Told.{Told, told_after, HasRoomToCount}
-use Rattle.xv_model.specs.Job.{Job, UnitOp, IsLegal}
+use Rattle.xv_model.specs.Job.{Job, UnitOp, IsLegal, first_start}
 use Rattle.xv_model.specs.View.{View, Disk, no_disk, first_view, front, is_running, number}
 use Rattle.xv_model.specs.Guest.{writes_to}
 use Rattle.xv_model.specs.Wait.{Event, next_operation}
@@ -25,7 +25,7 @@ use Rattle.xv_source.specs.Step.{Allows, StepsSource, MakesCall, MakesNoCall, Ha
 
 -- a job of these operations, with one message at a time
 abbrev pub machine : Shape → Config → List (List UnitOp) → Job
-machine s config traces = record { shape = s; format = 1; group = 1; config = config; faults = []; init = []; traces = traces }
+machine s config traces = record { shape = s; copy = s; format = 1; group = 1; config = config; faults = []; init = []; traces = traces; start = first_start }
 
 abbrev pub no_plan : Plan
 no_plan = record { reads = []; writes = []; flushes = [] }
