@@ -27,7 +27,12 @@ disks_within (d ∷ ds) some = omega (arith, some 0 (omega arith), disks_within 
 pub small_counts : (job : Job) → IsGoodJob job → AreSmall (counts_of job)
 small_counts job good =
     let sizes = sizes_of job.shape good.machine in
-    record { guests = omega (arith, good.guests.1); disks = omega (arith, disks_within job.copy.disks good.some_blocks, good.same_units, sizes.few_units); streams = omega (arith, good.streams.1); units = omega (arith, good.same_units, sizes.few_units) }
+    record {
+      guests = omega (arith, good.guests.1);
+      disks = omega (arith, disks_within job.copy.disks good.some_blocks, good.same_units, sizes.few_units);
+      streams = omega (arith, good.streams.1);
+      units = omega (arith, good.same_units, sizes.few_units);
+    }
 
 -- what each line of a script says, and the last one nothing
 abbrev said : List Line → List (Option Line)
