@@ -1,0 +1,87 @@
+//! Devices in memory that are made by their names.
+
+ghost use Rattle.std.specs.Prelude.{◌≡◌, [], None, IfOk, option_map};
+ghost use Rattle.xv_base.specs.Calls.{planned};
+
+use crate::files::{Files, MakeFault};
+use crate::memory::MemDevice;
+use crate::plan::DevicePlan;
+use std::alloc::Global;
+use std::marker::Model;
+use xv_base::{Failed, Init, Layout, NoMemory, PlannedCalls};
+
+/// Makes devices in memory without planned faults, whatever their names.
+#[derive(Drop)]
+pub struct MemFiles {
+    making: PlannedCalls,
+    pair: Option<(MemDevice, MemDevice)>,
+}
+
+impl Model for MemFiles {
+    ghost use Rattle.std.specs.Prelude.{option_map};
+    ghost use Rattle.xv_device.specs.MemFiles.{Made};
+
+    ghost Value = { Made };
+
+    ghost view = { λ f. record { making = f.making; pair = option_map (λ p. record { source = p.0; dest = p.1 }) f.pair } };
+}
+
+impl MemFiles {
+    /// Files of which the calls of `create` of the numbers in `fails`, from 1, fail. No pair was given back.
+    pub fn new(alloc: Global, fails: &[u32]) -> Result<MemFiles, NoMemory>
+        ensures { IfOk result (λ files. files ≡ record { making = planned fails.now; pair = None }) }
+    {
+        Ok(MemFiles {
+            making: PlannedCalls::new(alloc, fails)?,
+            pair: None,
+        })
+    }
+
+    /// The pair that was given back, the source first.
+    pub fn pair(&self) -> Option<(&MemDevice, &MemDevice)>
+        ensures { option_map (λ p. record { source = p.0.now; dest = p.1.now }) result ≡ self.now.pair }
+    {
+        let (source, dest) = self.pair.as_ref()?;
+        Some((source, dest))
+    }
+}
+
+impl Files for MemFiles {
+    type Device = MemDevice;
+
+    ghost pair = { λ f. f.pair };
+
+    ghost faults = { λ f. f.making.faults };
+
+    /// Fails exactly where the plan has the call's number.
+    fn create(
+        &mut self,
+        alloc: Global,
+        _name: &str,
+        layout: &Layout,
+        init: &[Init],
+    ) -> Result<MemDevice, MakeFault> {
+        let Ok(()) = self.making.begin() else {
+            return Err(MakeFault::Failed);
+        };
+        match MemDevice::new(alloc, layout, init, no_plan(alloc)) {
+            Ok(device) => Ok(device),
+            Err(NoMemory) => Err(MakeFault::NoMemory),
+        }
+    }
+
+    fn give_back(&mut self, source: MemDevice, dest: MemDevice) {
+        self.pair = Some((source, dest));
+    }
+}
+
+/// A plan by which no call fails.
+fn no_plan(alloc: Global) -> DevicePlan
+    ensures { result ≡ record { reads = []; writes = []; flushes = [] } }
+{
+    DevicePlan {
+        reads: Vec::new(alloc),
+        writes: Vec::new(alloc),
+        flushes: Vec::new(alloc),
+    }
+}
