@@ -2,6 +2,8 @@
 
 ghost use Rattle.std.specs.Prelude.{◌≡◌, [], None, IfOk, option_map};
 ghost use Rattle.xv_base.specs.Calls.{planned};
+ghost use Rattle.xv_device.specs.Files.{IsWithin, IsMade};
+ghost use Rattle.xv_device.specs.Memory.{told, faults};
 
 use crate::files::{Files, MakeFault};
 use crate::memory::MemDevice;
@@ -64,7 +66,7 @@ impl Files for MemFiles {
         let Ok(()) = self.making.begin() else {
             return Err(MakeFault::Failed);
         };
-        match MemDevice::new(alloc, layout, init, no_plan(alloc)) {
+        match steady(alloc, layout, init) {
             Ok(device) => Ok(device),
             Err(NoMemory) => Err(MakeFault::NoMemory),
         }
@@ -73,6 +75,19 @@ impl Files for MemFiles {
     fn give_back(&mut self, source: MemDevice, dest: MemDevice) {
         self.pair = Some((source, dest));
     }
+}
+
+/// A device in memory of which no call fails.
+/// Errors: want of memory.
+#[tactic(auto, using(crate::proofs::FreshlyMade::fresh_made))]
+fn steady(alloc: Global, layout: &Layout, init: &[Init]) -> Result<MemDevice, NoMemory>
+    requires { IsWithin layout.now init.now }
+    ensures { IfOk result (λ device. IsMade layout.now init.now (told device) (faults device)) }
+{
+    let device = MemDevice::new(alloc, layout, init, no_plan(alloc))?;
+    // That each unit's content has the unit's size is told with the layout.
+    let _ = device.layout();
+    Ok(device)
 }
 
 /// A plan by which no call fails.
