@@ -1,7 +1,7 @@
 //! Devices in memory that are made by their names.
 
-ghost use Rattle.std.specs.Prelude.{◌≡◌, [], None, IfOk, option_map};
-ghost use Rattle.xv_base.specs.Calls.{planned};
+ghost use Rattle.std.specs.Prelude.{◌≡◌, ◌↔◌, [], None, true, IfOk, IsErrOf, option_map};
+ghost use Rattle.xv_base.specs.Calls.{after_call, fails_next, planned};
 ghost use Rattle.xv_device.specs.Files.{IsWithin, IsMade};
 ghost use Rattle.xv_device.specs.Memory.{told, faults};
 
@@ -62,7 +62,12 @@ impl Files for MemFiles {
         _name: &str,
         layout: &Layout,
         init: &[Init],
-    ) -> Result<MemDevice, MakeFault> {
+    ) -> Result<MemDevice, MakeFault>
+        requires { IsWithin layout.now init.now }
+        ensures fails { IsErrOf result MakeFault.Failed ↔ (fails_next self.old.making ≡ true) }
+        ensures made { IfOk result (λ device. IsMade layout.now init.now (told device) (faults device)) }
+        ensures after { self.new ≡ record self.old { making = after_call (fails_next self.old.making) self.old.making } }
+    {
         let Ok(()) = self.making.begin() else {
             return Err(MakeFault::Failed);
         };
