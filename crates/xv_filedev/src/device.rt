@@ -4,7 +4,8 @@ ghost use Rattle.std.specs.Prelude.{◌≡◌, ◌+◌, ◌<◌, ◌≤◌, ◌^
 ghost use Rattle.xv_base.specs.Units.{units, size};
 ghost use Rattle.xv_base.specs.Calls.{next_count};
 ghost use Rattle.xv_device.specs.Device.{PatchRange, write_count};
-ghost use Rattle.xv_filedev.specs.Untold.{after};
+ghost use Rattle.xv_device.specs.Told.{IsSized};
+ghost use Rattle.xv_filedev.specs.Untold.{after, untold};
 
 use std::fs::File;
 use std::io;
@@ -54,10 +55,11 @@ impl FileDevice {
         requires unit_in { unit.0 < units self.old.shape }
         requires range_in { offset + length bytes.now ≤ size self.old.shape unit.0 }
         requires few { write_count self.old.writes unit.0 < 2 ^ 63 }
-        ensures { self.new ≡ after (PatchRange unit.0 offset bytes.now) (is_err result) self.old }
+        ensures after { self.new ≡ after (PatchRange unit.0 offset bytes.now) (is_err result) self.old }
+        ensures sized { IsSized (untold self.old) }
     {
-        let at = self.layout.place(unit) + offset;
-        let written = self.file.write_all_at(bytes, u64::from(at));
+        let at = place(&self.layout, unit, offset);
+        let written = self.file.write_all_at(bytes, at);
         self.settle(written)?;
         self.writes[unit.0 as usize] += 1;
         Ok(())
@@ -85,8 +87,8 @@ impl UnitDevice for FileDevice {
     ghost faults = { λ d. d.faults };
 
     fn read(&mut self, unit: UnitId, offset: u32, into: &mut [u8]) -> Result<(), Failed> {
-        let at = self.layout.place(unit) + offset;
-        let read = self.file.read_exact_at(into, u64::from(at));
+        let at = place(&self.layout, unit, offset);
+        let read = self.file.read_exact_at(into, at);
         self.settle(read)
     }
 
@@ -103,4 +105,11 @@ impl UnitDevice for FileDevice {
         let synced = self.file.sync_all();
         self.settle(synced)
     }
+}
+
+/// Where in a file the bytes of a unit from an offset on stand.
+fn place(layout: &Layout, unit: UnitId, offset: u32) -> u64
+    requires { unit.0 < units layout.now }
+{
+    u64::from(layout.place(unit)) + u64::from(offset)
 }

@@ -1,7 +1,7 @@
 //! What makes files.
 
-ghost use Rattle.std.specs.Prelude.{◌≡◌, ◌≤◌, None, length};
-ghost use Rattle.xv_base.specs.Units.{max_size};
+ghost use Rattle.std.specs.Prelude.{◌≡◌, ◌<◌, ◌≤◌, None, length};
+ghost use Rattle.xv_base.specs.Units.{max_size, units};
 ghost use Rattle.xv_device.specs.Files.{IsWithin};
 
 use crate::device::FileDevice;
@@ -91,10 +91,18 @@ fn make<R: rt::Files<File = File>>(
         .open(rt, name)?;
     file.set_len(u64::from(layout.bytes()))?;
     for k in (0..init.len()).rev() {
-        let first = init[k];
-        let content = &mut unit[..layout.size(first.unit) as usize];
-        first.pattern.fill(content);
-        file.write_all_at(content, u64::from(layout.place(first.unit)))?;
+        lay(&file, layout, init[k], unit)?;
     }
     Ok(file)
+}
+
+/// Lays a pattern over its unit.
+fn lay(file: &File, layout: &Layout, first: Init, unit: &mut [u8]) -> io::Result<()>
+    requires within { first.unit.0 < units layout.now }
+    requires wide { max_size layout.now ≤ length unit.old }
+    ensures { length unit.new ≡ length unit.old }
+{
+    let content = &mut unit[..layout.size(first.unit) as usize];
+    first.pattern.fill(content);
+    file.write_all_at(content, u64::from(layout.place(first.unit)))
 }
