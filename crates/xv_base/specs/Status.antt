@@ -1,7 +1,7 @@
 -- The codes of the statuses.
 use Rattle.std.specs.Prelude.{ℕ}
 use Rattle.xv_base.specs.declared.status.Status.{Status}
-use Rattle.xv_base.specs.declared.status.Status.TheVariants.{Fine, BadWords, BadInput, ReadFault, WriteFault, NoMemory, Failed, Cancelled}
+use Rattle.xv_base.specs.declared.status.Status.TheVariants.{Fine, BadWords, BadInput, ReadFault, WriteFault, NoMemory, Failed, Cancelled, FileFault}
 
 -- what the process ends with
 abbrev pub status_code : Status → ℕ
@@ -13,3 +13,4 @@ status_code WriteFault = 4
 status_code NoMemory = 5
 status_code Failed = 6
 status_code Cancelled = 7
+status_code FileFault = 8

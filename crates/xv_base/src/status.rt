@@ -22,10 +22,12 @@ pub enum Status {
     Failed,
     /// The migration was cancelled.
     Cancelled,
+    /// A file could not be made.
+    FileFault,
 }
 
 impl Status {
-    /// The code that the process ends with, from 0 to 7.
+    /// The code that the process ends with, from 0 to 8.
     pub fn code(self) -> u8
         ensures { result ≡ status_code self }
     {
@@ -38,6 +40,7 @@ impl Status {
             Status::NoMemory => 5,
             Status::Failed => 6,
             Status::Cancelled => 7,
+            Status::FileFault => 8,
         }
     }
 }

@@ -142,6 +142,7 @@ fn codes_statuses(rt: HostRuntime) {
         (Status::NoMemory, 5),
         (Status::Failed, 6),
         (Status::Cancelled, 7),
+        (Status::FileFault, 8),
     ];
     for (status, want) in cases {
         assert_eq!(rt; status.code(), want);

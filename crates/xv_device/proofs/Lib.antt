@@ -4,3 +4,4 @@ pub mod Filling
 pub mod Sized
 pub mod Made
 pub mod OnPages
+pub mod FreshlyMade

@@ -3,3 +3,5 @@ pub mod Told
 pub mod Pieces
 pub mod Memory
 pub mod Operations
+pub mod Files
+pub mod MemFiles

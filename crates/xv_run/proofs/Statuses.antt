@@ -4,7 +4,7 @@ use Rattle.std.specs.Prelude.{◌⊎◌}
 use Rattle.xv_base.specs.declared.event.Phase.{Phase}
 use Rattle.xv_base.specs.declared.event.Phase.TheVariants.{Switched as SwitchedPhase, Cancelled as CancelledPhase, Failed as FailedPhase}
 use Rattle.xv_base.specs.declared.status.Status.{Status}
-use Rattle.xv_base.specs.declared.status.Status.TheVariants.{Fine, BadWords, BadInput, ReadFault, WriteFault, NoMemory, Failed, Cancelled}
+use Rattle.xv_base.specs.declared.status.Status.TheVariants.{Fine, BadWords, BadInput, ReadFault, WriteFault, NoMemory, Failed, Cancelled, FileFault}
 use Rattle.xv_top.specs.Outcome.{Outcome, ReadsQuietly, ReadsWithin, WriteFails}
 use Rattle.xv_top.specs.Promises.{IsRefusedBy, IsRefusalCut, IsReadFailed, IsOutOfMemory}
 use Rattle.xv_top.specs.declared.command.Form.{Form}
@@ -27,6 +27,7 @@ Says F E C I R W M WriteFault = W
 Says F E C I R W M NoMemory = M
 Says F E C I R W M Failed = E
 Says F E C I R W M Cancelled = C
+Says F E C I R W M FileFault = ⊥
 
 pub record SaysEach (F E C I R W M : Type 0) (s : Status) : Type 0 where
   pub fine : s ≡ Fine → F
@@ -37,7 +38,7 @@ pub record SaysEach (F E C I R W M : Type 0) (s : Status) : Type 0 where
   pub write_fault : s ≡ WriteFault → W
   pub no_memory : s ≡ NoMemory → M
   pub complete : (I → ⊥) → (R → ⊥) → (W → ⊥) → IsOver s ⊎ (s ≡ NoMemory)
-  pub no_other : s ≢ BadWords
+  pub no_other : (s ≢ BadWords) × (s ≢ FileFault)
 
 says-each : (F E C I R W M : Type 0) (s : Status) → Says F E C I R W M s → SaysEach F E C I R W M s
 says-each F E C I R W M Fine says = record {
@@ -49,7 +50,7 @@ says-each F E C I R W M Fine says = record {
   write_fault = λ is. absurd (cc);
   no_memory = λ is. absurd (cc);
   complete = λ _ _ _. inl (inl refl);
-  no_other = λ is. cc;
+  no_other = ((λ is. cc), (λ is. cc));
 }
 says-each F E C I R W M BadWords says = absurd says
 says-each F E C I R W M BadInput says = record {
@@ -61,7 +62,7 @@ says-each F E C I R W M BadInput says = record {
   write_fault = λ is. absurd (cc);
   no_memory = λ is. absurd (cc);
   complete = λ not _ _. absurd (not says);
-  no_other = λ is. cc;
+  no_other = ((λ is. cc), (λ is. cc));
 }
 says-each F E C I R W M ReadFault says = record {
   fine = λ is. absurd (cc);
@@ -72,7 +73,7 @@ says-each F E C I R W M ReadFault says = record {
   write_fault = λ is. absurd (cc);
   no_memory = λ is. absurd (cc);
   complete = λ _ not _. absurd (not says);
-  no_other = λ is. cc;
+  no_other = ((λ is. cc), (λ is. cc));
 }
 says-each F E C I R W M WriteFault says = record {
   fine = λ is. absurd (cc);
@@ -83,7 +84,7 @@ says-each F E C I R W M WriteFault says = record {
   write_fault = λ _. says;
   no_memory = λ is. absurd (cc);
   complete = λ _ _ not. absurd (not says);
-  no_other = λ is. cc;
+  no_other = ((λ is. cc), (λ is. cc));
 }
 says-each F E C I R W M NoMemory says = record {
   fine = λ is. absurd (cc);
@@ -94,7 +95,7 @@ says-each F E C I R W M NoMemory says = record {
   write_fault = λ is. absurd (cc);
   no_memory = λ _. says;
   complete = λ _ _ _. inr refl;
-  no_other = λ is. cc;
+  no_other = ((λ is. cc), (λ is. cc));
 }
 says-each F E C I R W M Failed says = record {
   fine = λ is. absurd (cc);
@@ -105,7 +106,7 @@ says-each F E C I R W M Failed says = record {
   write_fault = λ is. absurd (cc);
   no_memory = λ is. absurd (cc);
   complete = λ _ _ _. inl (inr (inl refl));
-  no_other = λ is. cc;
+  no_other = ((λ is. cc), (λ is. cc));
 }
 says-each F E C I R W M Cancelled says = record {
   fine = λ is. absurd (cc);
@@ -116,8 +117,9 @@ says-each F E C I R W M Cancelled says = record {
   write_fault = λ is. absurd (cc);
   no_memory = λ is. absurd (cc);
   complete = λ _ _ _. inl (inr (inr refl));
-  no_other = λ is. cc;
+  no_other = ((λ is. cc), (λ is. cc));
 }
+says-each F E C I R W M FileFault says = absurd says
 
 abbrev pub RunSays : Form → Outcome → Status → Type 0
 RunSays form o s =

@@ -3,7 +3,7 @@ use Rattle.std.specs.Prelude.{◌≡◌, ◌≢◌, ◌⊎◌, ℕ, List, Option
 use Rattle.xv_io.specs.Io.{TookMore}
 use Rattle.xv_base.specs.declared.event.Phase.TheVariants.{Switched as SwitchedPhase, Cancelled as CancelledPhase, Failed as FailedPhase}
 use Rattle.xv_base.specs.declared.status.Status.{Status}
-use Rattle.xv_base.specs.declared.status.Status.TheVariants.{Fine, BadWords, BadInput, ReadFault, WriteFault, NoMemory, Failed, Cancelled}
+use Rattle.xv_base.specs.declared.status.Status.TheVariants.{Fine, BadWords, BadInput, ReadFault, WriteFault, NoMemory, Failed, Cancelled, FileFault}
 use Rattle.xv_job.specs.Written.{job_of}
 use Rattle.xv_job.specs.JobText.{job_text}
 use Rattle.xv_report.specs.Texts.{image_text}
@@ -32,7 +32,7 @@ pub record RunPromise (form : Form) (o : Outcome) : Type 0 where
   pub no_memory : o.status ≡ NoMemory → IsOutOfMemory o ⊎ IsRunShort form o
   pub complete : IsGoodInput run_fault o.input → HasNotFailed o → IsOver o.status ⊎ (o.status ≡ NoMemory)
   pub left : (IsOver o.status → ⊥) → o.left ≡ Nothing
-  pub no_other : o.status ≢ BadWords
+  pub no_other : (o.status ≢ BadWords) × (o.status ≢ FileFault)
 
 -- The input is the text of the migration's job. Its journal's lines were taken, each entry with its answer and with what the
 -- unmigrated guest reads there, then a report, then the image of what the devices hold.

@@ -3,7 +3,7 @@ use Rattle.std.proofs.Common.{◌≡◌, ◌≢◌, ℕ, List, Option, Some, Non
 use Rattle.std.specs.Prelude.{◌⊎◌, Result, Ok, Err}
 use Rattle.xv_base.specs.declared.text.LineFault.{LineFault}
 use Rattle.xv_base.specs.declared.status.Status.{Status}
-use Rattle.xv_base.specs.declared.status.Status.TheVariants.{Fine, BadWords, BadInput, ReadFault, WriteFault, NoMemory, Failed, Cancelled}
+use Rattle.xv_base.specs.declared.status.Status.TheVariants.{Fine, BadWords, BadInput, ReadFault, WriteFault, NoMemory, Failed, Cancelled, FileFault}
 use Rattle.xv_io.specs.Io.{TookMore}
 use Rattle.xv_job.specs.Written.{Written, job_of}
 use Rattle.xv_job.specs.Made.{made_job}
@@ -28,6 +28,7 @@ Says F I R W M WriteFault = W
 Says F I R W M NoMemory = M
 Says F I R W M Failed = ⊥
 Says F I R W M Cancelled = ⊥
+Says F I R W M FileFault = ⊥
 
 pub record SaysEach (F I R W M : Type 0) (s : Status) : Type 0 where
   pub fine : s ≡ Fine → F
@@ -38,8 +39,8 @@ pub record SaysEach (F I R W M : Type 0) (s : Status) : Type 0 where
   pub complete : (I → ⊥) → (R → ⊥) → (W → ⊥) → IsComplete s
   pub no_other : IsOfCommand s
 
-of-command : (s : Status) → s ≢ BadWords → s ≢ Failed → s ≢ Cancelled → IsOfCommand s
-of-command s words failed cancelled = record { words = words; failed = failed; cancelled = cancelled }
+of-command : (s : Status) → s ≢ BadWords → s ≢ Failed → s ≢ Cancelled → s ≢ FileFault → IsOfCommand s
+of-command s words failed cancelled files = record { words = words; failed = failed; cancelled = cancelled; files = files }
 
 pub says-each : (F I R W M : Type 0) (s : Status) → Says F I R W M s → SaysEach F I R W M s
 says-each F I R W M Fine says = record {
@@ -49,7 +50,7 @@ says-each F I R W M Fine says = record {
   write_fault = λ is. absurd (cc);
   no_memory = λ is. absurd (cc);
   complete = λ _ _ _. inl refl;
-  no_other = of-command Fine (λ is. cc) (λ is. cc) (λ is. cc);
+  no_other = of-command Fine (λ is. cc) (λ is. cc) (λ is. cc) (λ is. cc);
 }
 says-each F I R W M BadWords says = absurd says
 says-each F I R W M BadInput says = record {
@@ -59,7 +60,7 @@ says-each F I R W M BadInput says = record {
   write_fault = λ is. absurd (cc);
   no_memory = λ is. absurd (cc);
   complete = λ not _ _. absurd (not says);
-  no_other = of-command BadInput (λ is. cc) (λ is. cc) (λ is. cc);
+  no_other = of-command BadInput (λ is. cc) (λ is. cc) (λ is. cc) (λ is. cc);
 }
 says-each F I R W M ReadFault says = record {
   fine = λ is. absurd (cc);
@@ -68,7 +69,7 @@ says-each F I R W M ReadFault says = record {
   write_fault = λ is. absurd (cc);
   no_memory = λ is. absurd (cc);
   complete = λ _ not _. absurd (not says);
-  no_other = of-command ReadFault (λ is. cc) (λ is. cc) (λ is. cc);
+  no_other = of-command ReadFault (λ is. cc) (λ is. cc) (λ is. cc) (λ is. cc);
 }
 says-each F I R W M WriteFault says = record {
   fine = λ is. absurd (cc);
@@ -77,7 +78,7 @@ says-each F I R W M WriteFault says = record {
   write_fault = λ _. says;
   no_memory = λ is. absurd (cc);
   complete = λ _ _ not. absurd (not says);
-  no_other = of-command WriteFault (λ is. cc) (λ is. cc) (λ is. cc);
+  no_other = of-command WriteFault (λ is. cc) (λ is. cc) (λ is. cc) (λ is. cc);
 }
 says-each F I R W M NoMemory says = record {
   fine = λ is. absurd (cc);
@@ -86,10 +87,11 @@ says-each F I R W M NoMemory says = record {
   write_fault = λ is. absurd (cc);
   no_memory = λ _. says;
   complete = λ _ _ _. inr refl;
-  no_other = of-command NoMemory (λ is. cc) (λ is. cc) (λ is. cc);
+  no_other = of-command NoMemory (λ is. cc) (λ is. cc) (λ is. cc) (λ is. cc);
 }
 says-each F I R W M Failed says = absurd says
 says-each F I R W M Cancelled says = absurd says
+says-each F I R W M FileFault says = absurd says
 
 -- an input that has no fault is not refused
 no-fault : (found : Option LineFault) (fault : LineFault) → found ≡ None → found ≡ Some fault → ⊥

@@ -3,7 +3,7 @@
 use Rattle.std.specs.Prelude.{◌≡◌, ◌≢◌, ◌⊎◌, ℕ, List, Option, Some, None, IfSome}
 use Rattle.xv_base.specs.declared.text.LineFault.{LineFault}
 use Rattle.xv_base.specs.declared.status.Status.{Status}
-use Rattle.xv_base.specs.declared.status.Status.TheVariants.{Fine, BadWords, BadInput, ReadFault, WriteFault, NoMemory, Failed, Cancelled}
+use Rattle.xv_base.specs.declared.status.Status.TheVariants.{Fine, BadWords, BadInput, ReadFault, WriteFault, NoMemory, Failed, Cancelled, FileFault}
 use Rattle.xv_job.specs.JobText.{job_text}
 use Rattle.xv_job.specs.Made.{made_job}
 use Rattle.xv_top.specs.Refused.{input_fault, refused_line, refused_words}
@@ -59,6 +59,7 @@ pub record IsOfCommand (status : Status) : Type 0 where
   pub words : status ≢ BadWords
   pub failed : status ≢ Failed
   pub cancelled : status ≢ Cancelled
+  pub files : status ≢ FileFault
 
 pub record ReplayPromise (form : Form) (o : Outcome) : Type 0 where
   pub reads : ReadsWithin o.input
