@@ -1,6 +1,6 @@
 //! A reader reads the numbers of progress while the workers run in threads of their own.
 
-ghost use Rattle.std.specs.Prelude.{◌≡◌, ◌×◌, []};
+ghost use Rattle.std.specs.Prelude.{◌≡◌, []};
 ghost use Rattle.std.specs.Thread.{IsSend, IsSync};
 ghost use Rattle.xv_model.specs.Job.{guest_count};
 ghost use Rattle.xv_job.specs.Written.{job_of};
