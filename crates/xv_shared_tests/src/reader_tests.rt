@@ -63,8 +63,8 @@ fn no_number_falls_while_the_workers_run(rt: HostRuntime) -> Result<(), Fail> {
     assert!(rt; pace.in_step());
     assert!(rt; !seen.fell);
     assert!(rt; seen.last.journal > 0);
-    // The first guest has 1,200 operations, and had begun none after its 999th call when the last read was made.
-    assert!(rt; seen.last.journal + 200 < at_the_end.journal);
+    // The first guest has 1,200 operations, and its worker had made 999 calls before the last read.
+    assert!(rt; seen.last.journal.saturating_add(200) < at_the_end.journal);
     assert!(rt; !is_below(&at_the_end, &seen.last));
     assert_eq!(rt; at_the_end, numbers_of(&totals));
     Ok(())
