@@ -1,4 +1,4 @@
-//! A gate that holds a guest's worker and a reader of the numbers of progress in step.
+//! A gate that keeps a guest's worker and a reader of the numbers of progress together.
 
 use std::sync::atomic::{AtomicBool, AtomicU64, Ordering};
 use std::thread::yield_now;
@@ -7,13 +7,16 @@ use xv_shared::Gate;
 /// How often the reader reads.
 pub(crate) const READS: u64 = 1_000;
 
-/// The number of the worker that is held: the first guest, who has more operations than the reader reads.
-const HELD: u32 = 0;
+/// How many calls of the worker and reads the two are apart at most.
+pub(crate) const APART: u64 = 50;
+
+/// The number of the worker that is kept: the first guest's.
+const KEPT: u32 = 0;
 
 /// How often one of the two looks for the other before it goes on alone.
 const LOOKS: u32 = 20_000_000;
 
-/// The worker's calls that are about to be made, the reads that were made, and whether one waited for the other in vain.
+/// How many calls the worker has come to, how many reads were made, and whether one of the two waited for the other in vain.
 #[derive(Drop)]
 pub(crate) struct Pace {
     calls: AtomicU64,
@@ -30,24 +33,25 @@ impl Pace {
         }
     }
 
-    /// Waits until the worker stands before the call of a number, counted from 0.
-    pub(crate) fn await_call(&self, number: u64) {
-        self.wait_above(&self.calls, number);
+    /// Waits until the worker has come near the call with the number of a read.
+    pub(crate) fn before_read(&self, number: u64) {
+        self.wait_near(&self.calls, number);
     }
 
-    /// Lets the worker make the call of a number.
-    pub(crate) fn has_read(&self, number: u64) {
+    /// Tells that the read of a number, counted from 0, was made.
+    pub(crate) fn after_read(&self, number: u64) {
         self.reads.store(number.saturating_add(1), Ordering::SeqCst);
     }
 
-    /// Whether all reads were made, each between two calls of the worker.
-    pub(crate) fn in_step(&self) -> bool {
+    /// Whether all reads were made, and the two were together.
+    pub(crate) fn was_kept(&self) -> bool {
         self.reads.load(Ordering::SeqCst) == READS && !self.missed.load(Ordering::SeqCst)
     }
 
-    fn wait_above(&self, count: &AtomicU64, number: u64) {
+    fn wait_near(&self, count: &AtomicU64, number: u64) {
         for _ in 0..LOOKS {
-            if count.load(Ordering::SeqCst) > number || self.missed.load(Ordering::SeqCst) {
+            let there = count.load(Ordering::SeqCst).saturating_add(APART) > number;
+            if there || self.missed.load(Ordering::SeqCst) {
                 return;
             }
             yield_now();
@@ -58,9 +62,10 @@ impl Pace {
 
 impl Gate for Pace {
     fn turn(&self, worker: u32, step: u64) {
-        if worker == HELD && step < READS {
+        if worker == KEPT {
             self.calls.store(step.saturating_add(1), Ordering::SeqCst);
-            self.wait_above(&self.reads, step);
+            // From this step on it waits until all reads were made.
+            self.wait_near(&self.reads, step.min(READS + APART - 1));
         }
     }
 }
