@@ -5,7 +5,11 @@
 #[cfg(test)]
 mod made;
 #[cfg(test)]
+mod pace;
+#[cfg(test)]
 mod play;
+#[cfg(test)]
+mod reader_tests;
 #[cfg(test)]
 mod row_tests;
 #[cfg(test)]

@@ -18,9 +18,16 @@ pub(crate) fn begun(alloc: Global, text: &[u8]) -> Result<Machine, Fail>
     ensures { IfOk result (λ machine. machine ≡ begun_in_memory machine.job) }
 {
     match read_job(alloc, text) {
-        Ok((job, _place)) => Ok(begin(alloc, job)?),
+        Ok((job, _place)) => begun_of(alloc, job),
         Err(_) => Err(Fail::new("no job")),
     }
+}
+
+/// The migration over devices and wires in memory of a job.
+pub(crate) fn begun_of(alloc: Global, job: Job) -> Result<Machine, Fail>
+    ensures { IfOk result (λ machine. machine ≡ begun_in_memory machine.job) }
+{
+    Ok(begin(alloc, job)?)
 }
 
 /// Blanks of as many parts as a job has workers.
