@@ -1,11 +1,11 @@
 //! Inputs to their ends and texts to theirs, in pieces, with calls that fail, and over std.
 
 use std::io;
-use std::io::Write;
+use std::io::{Read, Write};
 use std::test::Fail;
 use xv_base::Failed;
 use xv_io::{
-    MemSink, MemSource, ReadAll, Sink, StdSink, StdSource, WriteFault, read_all, write_text,
+    MemSink, MemSource, ReadAll, Sink, Source, StdSink, StdSource, WriteFault, read_all, write_text,
 };
 
 #[test]
@@ -105,4 +105,38 @@ fn hands_a_flush_on(rt: HostRuntime) {
     let mut count = 0;
     assert_eq!(rt; StdSink::new(Flushes(&mut count)).flush(), Ok(()));
     assert_eq!(rt; count, 1);
+}
+
+// A reader and a writer whose calls all fail.
+#[derive(Drop)]
+struct Broken;
+
+impl Read for Broken {
+    fn read(&mut self, _into: &mut [u8]) -> io::Result<usize> {
+        Err(io::Error::from(io::ErrorKind::Other))
+    }
+}
+
+impl Write for Broken {
+    fn write(&mut self, _bytes: &[u8]) -> io::Result<usize> {
+        Err(io::Error::from(io::ErrorKind::Other))
+    }
+
+    fn flush(&mut self) -> io::Result<()> {
+        Err(io::Error::from(io::ErrorKind::Other))
+    }
+}
+
+#[test]
+fn tells_the_faults_of_std(rt: HostRuntime) {
+    let mut source = StdSource::new(Broken);
+    assert_eq!(rt; source.read(&mut [0; 4]), Err(Failed));
+    assert_eq!(rt;
+        read_all(rt.alloc(), &mut source, 3).err(),
+        Some(ReadAll::ReadFault)
+    );
+    let mut sink = StdSink::new(Broken);
+    assert_eq!(rt; sink.write(b"abc"), Err(Failed));
+    assert_eq!(rt; write_text(&mut sink, b"abc"), Err(WriteFault));
+    assert_eq!(rt; sink.flush(), Err(Failed));
 }
